@@ -1,11 +1,11 @@
 -- The nodes until an offset, which end at or before it: the first of a book's, since nodes are in order. Their images and spans are the
 -- drift of `normalized_offset`.
-use Rattle.std.specs.Prelude.{◌≡◌, refl, Bool, true, false, List, ◌∷◌, map}
+use Rattle.std.specs.Prelude.{◌≡◌, refl, Bool, true, false, List, ◌∷◌, map, Option, Some, None, MatchOption}
+use Rattle.std.specs.Option.{unwrap_or}
 use Rattle.std.proofs.Math.Path.{sym, ap, ap₂}
 use Rattle.std.proofs.Common.{◌∙◌}
 use Prim.Native.Nat.{ℕ, zero, suc, ◌+◌, ◌-◌, ◌*◌, ◌≤◌, ◌<◌}
 use native.Mathlib.Omega.{arith}
-use Rattle.std.proofs.Math.Dec.{leb}
 use borrow.Author.Tests.{le-leb, lt-leb}
 use Rattle.model.specs.Lists.{keep, tabulate, sum}
 use Rattle.model.specs.Types.{SourceNode}
@@ -16,7 +16,7 @@ use Rattle.laws.specs.Lists.{all_keep}
 use Rattle.laws.specs.Keep.{all_keep_self}
 use Rattle.laws.specs.Ordered.{take_while, keep_ends_by}
 use Rattle.laws.specs.Nodes.{ends_by, ordered_keep, spans_within}
-use Rattle.wire.specs.Loops.{Passed, passed_more, sum_to, sum_more, sum_mono, sum_tabulate}
+use Rattle.wire.specs.Loops.{Passed, sum_to, sum_more, sum_mono, sum_tabulate}
 use Rattle.bounds.specs.Walk.{image_small}
 use Rattle.bounds.specs.Search.{InOrder}
 
@@ -41,16 +41,6 @@ while_tabulate p (suc n) (suc r) f h passes fails =
     (while_tabulate p n r (λ k. f (suc k)) (omega arith) (λ k b. passes (suc k) (omega arith)) (λ b. fails (omega arith))))
 
 module _ (t : List ℕ) (at o : ℕ) where
-  -- the node's end, as the code has read it
-  module _ (i : ℕ) {end : ℕ} (q : end ≡ (record_at node_codec t (at + 49 * i)).source_span.end) where
-    pub until_more : Passed (ends_at t at o) i → end ≤ o → Passed (ends_at t at o) (i + 1)
-    unfolding ends_at
-    until_more p h = passed_more (ends_at t at o) i p (ap (λ (e : ℕ). leb e o) (sym q) ∙ le-leb end o h)
-
-    ends_behind_lem : o < end → ends_at t at o i ≡ false
-    unfolding ends_at
-    ends_behind_lem h = ap (λ (e : ℕ). leb e o) (sym q) ∙ lt-leb end o h
-
   until_is : {count : ℕ} → InOrder (records_at node_codec t at count) → (i : ℕ) → i ≤ count → Passed (ends_at t at o) i → (i < count → ends_at t at o i ≡ false) → Until t at count o i
   unfolding records_at node_codec ends_at
   until_is {count} s i h p f = record {
@@ -60,12 +50,24 @@ module _ (t : List ℕ) (at o : ℕ) where
         ∙ while_tabulate (ends_by o) count i (λ (k : ℕ). record_at node_codec t (at + 49 * k)) h p.all f);
   }
 
-  pub until_stop : {count : ℕ} → InOrder (records_at node_codec t at count) → (i : ℕ) → i < count → Passed (ends_at t at o) i
-      → {end : ℕ} → end ≡ (record_at node_codec t (at + 49 * i)).source_span.end → o < end → Until t at count o i
-  until_stop s i h p q b = until_is s i (omega arith) p (λ k. ends_behind_lem i q b)
+  -- the end of the node numbered i
+  abbrev pub end_at : ℕ → ℕ
+  end_at i = (record_at node_codec t (at + 49 * i)).source_span.end
 
-  pub until_all : {count : ℕ} → InOrder (records_at node_codec t at count) → (i : ℕ) → i ≡ count → Passed (ends_at t at o) i → Until t at count o i
-  until_all s i e p = until_is s i (omega arith) p (λ k. absurd (omega arith))
+  ends_before : (i : ℕ) → end_at i ≤ o → ends_at t at o i ≡ true
+  unfolding ends_at
+  ends_before i h = le-leb (end_at i) o h
+
+  ends_behind : (i : ℕ) → o < end_at i → ends_at t at o i ≡ false
+  unfolding ends_at
+  ends_behind i h = lt-leb (end_at i) o h
+
+  -- the first node that ends behind the offset, as `find` gives it
+  pub until_found : {count : ℕ} → InOrder (records_at node_codec t at count) → (r : Option ℕ)
+      → MatchOption r ((k : ℕ) → 0 ≤ k → k < count → end_at k ≤ o) (λ i. (0 ≤ i) × (i < count) × (o < end_at i) × ((k : ℕ) → 0 ≤ k → k < i → end_at k ≤ o))
+      → Until t at count o (unwrap_or r count)
+  until_found {count} s None h = until_is s count (omega arith) (record { all = λ k l. ends_before k (h k (omega arith) l) }) (λ k. absurd (omega arith))
+  until_found s (Some i) h = until_is s i (omega (arith, h.1)) (record { all = λ k l. ends_before k (h.3 k (omega arith) l) }) (λ k. ends_behind i h.2)
 
 -- ---- their images and spans
 

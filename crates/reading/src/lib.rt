@@ -9,6 +9,7 @@ ghost use Rattle.model.specs.Merge.{balanced_nodes, is_unclosed, normalized_offs
 ghost use Rattle.bounds.specs.Search.{InOrder};
 ghost use Rattle.reading.specs.Until.{Until};
 
+use bounds::Sums;
 use cuts::Depths;
 use records::{UNCLOSED_BRACKET, UNMATCHED_CLOSE};
 
@@ -47,26 +48,24 @@ pub fn has_unclosed(tape: &[u8], diagnostics: places::Run) -> bool
     (0..diagnostics.count).any(|i| is_unclosed(tape, diagnostics.at + 18 * i))
 }
 
-// How many nodes end at or before an offset: they are the first ones.
+// How many nodes end at or before an offset: they are the first ones. One after the other: whoever asks walks over those nodes all the
+// same, so that a bisection would gain little.
 pub fn nodes_until(tape: &[u8], nodes: places::Run, offset: u32) -> usize
     requires count_in_bounds { nodes.at + 49 * nodes.count ≤ length tape.now }
     requires in_order { InOrder (records_at node_codec tape.now nodes.at nodes.count) }
     ensures { Until tape.now nodes.at nodes.count offset result }
 {
-    for i in 0..nodes.count {
-        if offset < records::node_end(tape, nodes.at + 49 * i) {
-            return i;
-        }
-    }
-    nodes.count
+    (0..nodes.count)
+        .find(|&i| offset < records::node_end(tape, nodes.at + 49 * i))
+        .unwrap_or(nodes.count)
 }
 
 // An offset and the drift of the nodes before it.
-fn drifted(offset: u32, images: u64, spans: u64) -> usize
-    requires { (images < 9223372036854775808) × (spans < 9223372036854775808) }
-    ensures { result ≡ offset + images - spans }
+fn drifted(offset: u32, before: Sums) -> usize
+    requires { (before.images < 9223372036854775808) × (before.spans < 9223372036854775808) }
+    ensures { result ≡ offset + before.images - before.spans }
 {
-    (u64::from(offset) + images).saturating_sub(spans) as usize
+    (u64::from(offset) + before.images).saturating_sub(before.spans) as usize
 }
 
 // `normalized_offset`: the place of a source offset in the normalized text.
@@ -76,12 +75,14 @@ pub fn normalized_offset(tape: &[u8], nodes: places::Run, offset: u32) -> usize
     ensures { result ≡ normalized_offset (records_at node_codec tape.now nodes.at nodes.count) offset }
 {
     let n = nodes_until(tape, nodes, offset);
-    let mut images: u64 = 0;
-    let mut spans: u64 = 0;
+    let mut before = Sums {
+        images: 0,
+        spans: 0,
+    };
     for i in 0..n {
         let p = nodes.at + 49 * i;
-        images += bounds::image_length(tape, p);
-        spans += bounds::span_length(tape, p);
+        before.images += bounds::image_length(tape, p);
+        before.spans += bounds::span_length(tape, p);
     }
-    drifted(offset, images, spans)
+    drifted(offset, before)
 }

@@ -14,25 +14,25 @@ pub overflow_add-p : goal.overflow_add-p
 overflow_add-p c =
     omega (arith, c.nodes_until-n.ensures.within, c.requires.count_in_bounds, c.loop-i-test.true)
 
-pub image_length-images-requires : goal.image_length-images-requires
-image_length-images-requires c =
+pub image_length-requires : goal.image_length-requires
+image_length-requires c =
     omega (arith, c.nodes_until-n.ensures.within, c.requires.count_in_bounds, c.loop-i-test.true)
 
-pub overflow_add-images : goal.overflow_add-images
-overflow_add-images c =
-    omega (arith, summed_image c.loop-i.invariant c.loop-i-test.true c.image_length-images.ensures, c.nodes_until-n.ensures.within, c.requires.count_in_bounds)
+pub overflow_add-before : goal.overflow_add-before
+overflow_add-before c =
+    omega (arith, summed_image c.loop-i.invariant c.loop-i-test.true c.image_length.ensures, c.nodes_until-n.ensures.within, c.requires.count_in_bounds)
 
-pub span_length-spans-requires : goal.span_length-spans-requires
-span_length-spans-requires c =
+pub span_length-requires : goal.span_length-requires
+span_length-requires c =
     omega (arith, c.nodes_until-n.ensures.within, c.requires.count_in_bounds, c.loop-i-test.true)
 
-pub overflow_add-spans : goal.overflow_add-spans
-overflow_add-spans c =
-    omega (arith, summed_span c.loop-i.invariant c.loop-i-test.true c.image_length-images.ensures c.span_length-spans.ensures c.requires.in_order c.nodes_until-n.ensures)
+pub overflow_add-before-in-loop-i : goal.overflow_add-before-in-loop-i
+overflow_add-before-in-loop-i c =
+    omega (arith, summed_span c.loop-i.invariant c.loop-i-test.true c.image_length.ensures c.span_length.ensures c.requires.in_order c.nodes_until-n.ensures)
 
 pub loop-i-preserved : goal.loop-i-preserved
 loop-i-preserved c =
-    summed_more c.loop-i.invariant c.loop-i-test.true c.image_length-images.ensures c.span_length-spans.ensures
+    summed_more c.loop-i.invariant c.loop-i-test.true c.image_length.ensures c.span_length.ensures
 
 pub drifted-requires : goal.drifted-requires
 drifted-requires c =
