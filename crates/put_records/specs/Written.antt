@@ -1,10 +1,11 @@
 -- Records as they are written, part by part.
-use Rattle.std.specs.Prelude.{◌≡◌, refl, ℕ, ◌+◌, ◌*◌, ◌%◌, ◌/◌, List, [], ◌∷◌, ◌++◌, length, get_or}
+use Rattle.std.specs.Prelude.{◌≡◌, refl, ℕ, zero, suc, ◌≤◌, ◌+◌, ◌*◌, ◌%◌, ◌/◌, List, [], ◌∷◌, ◌++◌, length, get_or}
+use lib.ListN.{length-append}
 use Rattle.std.proofs.Common.{sym, ap, ◌∙◌, arith, append-nil, append_assoc}
 use Rattle.model.specs.Bytes.{word_bytes}
 use Rattle.model.specs.Types.{Body, Segment, SourceNode}
 use Rattle.model.specs.Tape.{record_bytes, operand_bytes, content_codec, segment_codec, node_codec}
-use Rattle.wire.specs.Overwrite.{overwrite, Wrote}
+use Rattle.wire.specs.Overwrite.{overwrite, Wrote, wrote_next}
 
 -- the bytes of a body's words
 unfoldable pub words_bytes : List ℕ → List ℕ
@@ -33,11 +34,28 @@ unfolding record_bytes operand_bytes content_codec
 content_written d l at tag first second w =
     w.is ∙ ap (overwrite d at) (append_assoc ((4 ∷ []) ++ (tag ∷ [])) (word_bytes first) (word_bytes second) ∙ ap (λ (x : List ℕ). 4 ∷ tag ∷ (word_bytes first ++ x)) (sym (append-nil (word_bytes second))))
 
-pub words_written : (d l : List ℕ) (at : ℕ) (ws : List ℕ)
-    → Wrote d at (((((word_bytes (get_or ws 0 0) ++ word_bytes (get_or ws 1 0)) ++ word_bytes (get_or ws 2 0)) ++ word_bytes (get_or ws 3 0)) ++ word_bytes (get_or ws 4 0)) ++ word_bytes (get_or ws 5 0)) l
-    → l ≡ overwrite d at (words_bytes ws)
-unfolding words_bytes
-words_written d l at ws w = w.is ∙ ap (overwrite d at) (simp append_assoc)
+-- the bytes of the first i words
+unfoldable pub bytes_until : List ℕ → ℕ → List ℕ
+bytes_until ws zero = []
+bytes_until ws (suc i) = bytes_until ws i ++ word_bytes (get_or ws i 0)
+
+pub length_until : (ws : List ℕ) (i : ℕ) → length (bytes_until ws i) ≡ 4 * i
+unfolding bytes_until
+length_until ws zero = omega arith
+length_until ws (suc i) = length-append (bytes_until ws i) (word_bytes (get_or ws i 0)) ∙ omega (arith, length_until ws i, length_word (get_or ws i 0))
+
+-- one word more
+pub until_more : {d l m : List ℕ} {at : ℕ} (ws : List ℕ) (i : ℕ) → Wrote d at (bytes_until ws i) l → m ≡ overwrite l (at + 4 * i) (word_bytes (get_or ws i 0))
+    → at + 4 * (i + 1) ≤ length d → Wrote d at (bytes_until ws (i + 1)) m
+unfolding bytes_until
+until_more {at = at} ws i w e h =
+    let long = length_word (get_or ws i 0) in
+    let next : i + 1 ≡ suc i = omega arith in
+    rw next (wrote_next w (at + 4 * i) (word_bytes (get_or ws i 0)) e (omega (arith, length_until ws i)) (omega (arith, h, long)))
+
+pub words_written : {d l : List ℕ} {at : ℕ} (ws : List ℕ) → Wrote d at (bytes_until ws 6) l → l ≡ overwrite d at (words_bytes ws)
+unfolding words_bytes bytes_until
+words_written {d} {l} {at} ws w = w.is ∙ ap (overwrite d at) (simp append_assoc)
 
 -- six words, whatever list they come from
 unfoldable pub six_of : List ℕ → List ℕ

@@ -24,12 +24,9 @@ fn put_words(out: &mut [u8], at: usize, words: [u32; 6])
     requires { at + 24 ≤ length out.old }
     ensures { out.new ≡ overwrite out.old at (words_bytes words) }
 {
-    wire::put_u32(out, at, words[0]);
-    wire::put_u32(out, at + 4, words[1]);
-    wire::put_u32(out, at + 8, words[2]);
-    wire::put_u32(out, at + 12, words[3]);
-    wire::put_u32(out, at + 16, words[4]);
-    wire::put_u32(out, at + 20, words[5]);
+    for (i, w) in words.iter().enumerate() {
+        wire::put_u32(out, at + 4 * i, *w);
+    }
 }
 
 // A body: its kind and tag, two plain words and its six words.
