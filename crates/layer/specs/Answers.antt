@@ -177,8 +177,8 @@ module _ (out strs : List ℕ) (at base : ℕ) (o : Totals) (small : TotalsFit o
             (omega (arith, z.content_bytes, k.contents)) (omega (arith, z.segment_bytes, k.contents, k.segments, e))
 
         -- what `finish` asks
-        pub finish_room : length out₁ ≡ length out → Rising work₁ m.state.count × ((o.strings ≤ max_pool) × (m.state.count ≤ max_new_strings) × (1 ≤ len) × (at + len + rest ≤ length out₁))
-        finish_room l = (good_rising w.good, (small.strings, w.good.words.few, omega (arith, e), omega (arith, h, l)))
+        pub finish_room : length out₁ ≡ length out → Rising work₁ m.state.count × (m.state.count ≤ max_new_strings) × (at + len + rest ≤ length out₁)
+        finish_room l = (good_rising w.good, w.good.words.few, omega (arith, h, l))
 
         module _ {out₂ : List ℕ} {r : Option Grafted} (l : length out₁ ≡ length out) (q : Finished work₁ o.strings at len rest m out₁ out₂ r) where
           left : length out₁ - at - len - rest ≡ length out - (at + len + rest)

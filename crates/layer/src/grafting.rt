@@ -20,12 +20,51 @@ pub struct Grafting<'a> {
 
 // The buffers are written, and so lent one by one: what is asked of their lengths is said at each function.
 impl<'a> Grafting<'a> {
-    ghost use Rattle.std.specs.Prelude.{◌≤◌, length};
-    ghost use Rattle.model.specs.Limits.{min_work_words};
+    ghost use Rattle.std.specs.Prelude.{◌≡◌, ◌+◌, ◌≤◌, length};
+    ghost use Rattle.model.specs.Limits.{max_new_strings, min_work_words};
     ghost use Rattle.model.specs.Store.{resolve_str};
     ghost use Rattle.graft.specs.Named.{source_store, pair_words};
     ghost use Rattle.representatives.specs.Pairs.{Pairs};
-    ghost use Rattle.layer.specs.Grafting.{GraftingTold};
+    ghost use Rattle.layer.specs.Lengths.{Rising};
+    ghost use Rattle.layer.specs.Answers.{Finished};
+    ghost use Rattle.layer.specs.Grafting.{GraftingTold, layer_length, nodes_length};
+
+    // The bytes of the layer without its strings.
+    fn layer_length(&self) -> usize
+        ensures { result ≡ layer_length self.now }
+    {
+        1 + 10 * (self.sizes.contents as usize) + 37 * (self.sizes.segments as usize)
+    }
+
+    // The bytes of the source's nodes.
+    fn nodes_length(&self) -> usize
+        ensures { result ≡ nodes_length self.now }
+    {
+        49 * self.source.places.nodes.count
+    }
+
+    // The strings' records before what a walk wrote; None where they have no room.
+    fn finish(&self, out: &mut [u8], work: &[u32], m: graft::Mark) -> Option<Grafted>
+        requires rising { Rising work.now m.state.count }
+        requires fits { (m.state.count ≤ max_new_strings) × (self.now.to.at + layer_length self.now + nodes_length self.now ≤ length out.old) }
+        ensures { Finished work.now self.now.to.below.strings self.now.to.at (layer_length self.now) (nodes_length self.now) m out.old out.new result }
+    {
+        let at = self.to.at;
+        let len = self.layer_length();
+        let rest = self.nodes_length();
+        let count = m.state.count;
+        if !crate::strings_fit(self.to.below.strings, count, out.len() - at - len - rest) {
+            return None;
+        }
+        crate::lay_out(out, work, at, len - 1 + rest, count);
+        Some(Grafted {
+            len: len + 5 * count,
+            strings: count as u32,
+            contents: m.contents,
+            segments: m.segments,
+            state: m.state,
+        })
+    }
 
     // By these words. Those behind the first 16384, if there are any, are pairs of crate `representatives`.
     fn graft_by(&self, out: &mut [u8], work: &mut [u32], strs: &mut [u8]) -> Option<Grafted>
@@ -35,14 +74,13 @@ impl<'a> Grafting<'a> {
         ensures { GraftingTold self.now out.old strs.old out.new strs.new result }
     {
         let to = self.to;
-        let len = crate::layer_length(self.sizes.contents, self.sizes.segments);
-        let rest = crate::nodes_length(self.source.places);
-        if out.len() - to.at < len + rest {
+        let len = self.layer_length();
+        if out.len() - to.at < len + self.nodes_length() {
             return None;
         }
         let plan = crate::plan_of(to.below, to.at, self.sizes.contents);
         let m = crate::walk(self.source, out, work, strs, plan, to.base, to.at + len)?;
-        crate::finish(out, work, to.below.strings, to.at, len, rest, m)
+        self.finish(out, work, m)
     }
 
     // With a representative for each long string, so that no two of them are compared again and again.

@@ -100,21 +100,6 @@ fn room_left(to: Place) -> sizes::Room
     }
 }
 
-// The bytes of a layer that has no strings.
-fn layer_length(contents: u32, segments: u32) -> usize
-    ensures { result ≡ 1 + 10 * contents + 37 * segments }
-{
-    1 + 10 * (contents as usize) + 37 * (segments as usize)
-}
-
-// The bytes of the source's nodes.
-fn nodes_length(p: places::Places) -> usize
-    requires { p.nodes.count ≤ max_list }
-    ensures { result ≡ 49 * p.nodes.count }
-{
-    49 * p.nodes.count
-}
-
 // Number 18. Whether so many strings have room in their pool, and their records in `left` bytes.
 fn strings_fit(below: u32, count: usize, left: usize) -> bool
     requires { (below ≤ max_pool) × (count ≤ max_new_strings) }
@@ -188,34 +173,6 @@ fn walk(
 }
 
 // ---- the layer
-
-// The strings' records before what a walk wrote, `len` bytes of a layer and `rest` of nodes; None where they have no room.
-fn finish(
-    out: &mut [u8],
-    work: &[u32],
-    below: u32,
-    at: usize,
-    len: usize,
-    rest: usize,
-    m: graft::Mark,
-) -> Option<Grafted>
-    requires rising { Rising work.now m.state.count }
-    requires below_le_max_pool { (below ≤ max_pool) × (m.state.count ≤ max_new_strings) × (1 ≤ len) × (at + len + rest ≤ length out.old) }
-    ensures { Finished work.now below at len rest m out.old out.new result }
-{
-    let count = m.state.count;
-    if !strings_fit(below, count, out.len() - at - len - rest) {
-        return None;
-    }
-    lay_out(out, work, at, len - 1 + rest, count);
-    Some(Grafted {
-        len: len + 5 * count,
-        strings: count as u32,
-        contents: m.contents,
-        segments: m.segments,
-        state: m.state,
-    })
-}
 
 // The pairs of a source's long strings, behind the words that a walk uses.
 fn pair_words(source: &Book, words: &mut [u32])
