@@ -7,7 +7,7 @@ mod grafting;
 mod place;
 
 ghost use Rattle.std.specs.Prelude.{◌≡◌, ◌&&◌, ◌∷◌, ◌++◌, ◌+◌, ◌-◌, ◌*◌, ◌%◌, ◌^◌, ◌≤◌, ◌<◌, leb, length, take, drop};
-ghost use Rattle.model.specs.Limits.{max_pool, max_list, max_new_strings, min_work_words};
+ghost use Rattle.model.specs.Limits.{max_pool, max_new_strings, min_work_words};
 ghost use Rattle.model.specs.Tape.{record_bytes, records_bytes, string_codec};
 ghost use Rattle.wire.specs.Overwrite.{overwrite};
 ghost use Rattle.table.specs.Layout.{start_in};
@@ -20,7 +20,7 @@ ghost use Rattle.graft.specs.Walk.{index_words};
 ghost use Rattle.layer.specs.Lengths.{new_length, new_lengths, Rising};
 ghost use Rattle.layer.specs.Layered.{room_left, plan_of, source_adds, grafted_into};
 ghost use Rattle.layer.specs.Walked.{offsets_of, WalkRoom, Walked};
-ghost use Rattle.layer.specs.Answers.{Finished, LayerTold};
+ghost use Rattle.layer.specs.Answers.{LayerTold};
 
 use graft::Walk;
 use grafting::Grafting;
@@ -172,8 +172,6 @@ fn walk(
     Some(m)
 }
 
-// ---- the layer
-
 // The pairs of a source's long strings, behind the words that a walk uses.
 fn pair_words(source: &Book, words: &mut [u32])
     requires min_work_words_in_bounds { min_work_words < length words.old }
@@ -183,6 +181,8 @@ fn pair_words(source: &Book, words: &mut [u32])
     let n = words.len();
     representatives::pair_strings(&source.strings(), &mut words[16384..n], least);
 }
+
+// ---- the layer
 
 // Sections 3 and 5. The nodes of a source that passed 1 to 7, grafted into one new layer at its place, the nodes' records behind the
 // layer's. None where number 18, or number 3 of a pool, forbids it.
