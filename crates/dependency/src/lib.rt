@@ -386,9 +386,8 @@ fn refers_in_parts(nodes: &Nodes, words: &mut [u32], from: u32) -> bool
     ensures { result ≡ depends_from (nodes_store nodes.now) from [] (first_nodes nodes.now nodes.now.run.count) }
 {
     let size = words.len() / 2 + 1;
-    // From part to part, and the last may be shorter.
-    let mut i = 0;
-    while i < nodes.run.count {
+    // The last part may be shorter.
+    for i in (0..nodes.run.count).step_by(size) {
         let left = nodes.run.count - i;
         let n = size.min(left);
         let rest = Nodes {
@@ -401,7 +400,6 @@ fn refers_in_parts(nodes: &Nodes, words: &mut [u32], from: u32) -> bool
         if refers_to_part(&rest, n, words, from) {
             return true;
         }
-        i += n;
     }
     false
 }

@@ -189,9 +189,8 @@ fn refers_in_parts(nodes: &Nodes, reading: &Nodes, words: &mut [u32]) -> bool
     ensures { result ≡ any_refers nodes.now nodes.now.run.count reading.now }
 {
     let size = words.len() / 2 + 1;
-    // From part to part, and the last may be shorter.
-    let mut i = 0;
-    while i < nodes.run.count {
+    // The last part may be shorter.
+    for i in (0..nodes.run.count).step_by(size) {
         let n = size.min(nodes.run.count - i);
         let part = Nodes {
             strings: nodes.strings,
@@ -203,7 +202,6 @@ fn refers_in_parts(nodes: &Nodes, reading: &Nodes, words: &mut [u32]) -> bool
         if refers_to_some(&part, reading, words) {
             return true;
         }
-        i += n;
     }
     false
 }
