@@ -35,7 +35,7 @@ impl<'a, K: Spliced> Section<'a, K> {
         }
     }
 
-    // How many records are in a part.
+    // How many records are in a part. Counted by hand: `filter(..).count()` was tried, and that it counts `part_of` did not close.
     fn count_part(&self, w: Window, part: Part) -> usize
         ensures { result ≡ length (part_of K.located (window_value w) part (records_at K.codec self.now.tape.now self.now.run.at self.now.run.count)) }
     {
