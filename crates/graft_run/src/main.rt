@@ -7,14 +7,20 @@ ghost use Rattle.std.specs.Prelude.{◌≡◌, IfSome, true, ◌+◌, ◌*◌, �
 ghost use Rattle.layer.specs.Layered.{TotalsFit};
 
 use layer::{Grafted, Place};
+use refusal::Refusal;
 use region::Book;
 use std::io;
 use std::io::Read;
 use store::Totals;
 
+// number 3's limit, as crate `texts` has it for itself
 const MAX_POOL: u32 = 1048575;
 
 const NODE: usize = 49;
+
+fn put_refused(rt: &impl Print, refusal: Refusal) -> io::Result<()> {
+    print!(rt; "refused {}", u32::from(refusal))
+}
 
 // The layer's records, and those of the nodes behind them; the strings' bytes begin at 0.
 fn put_layer(rt: &impl Print, r: Grafted, nodes: usize, out: &[u8], strs: &[u8]) -> io::Result<()>
@@ -48,7 +54,7 @@ fn put_answer(
 {
     match r {
         Some(l) => put_layer(rt, l, nodes, out, strs),
-        None => print!(rt; "refused 18"),
+        None => put_refused(rt, Refusal::NoRoom),
     }
 }
 
@@ -82,7 +88,7 @@ fn totals_fit(o: Totals) -> bool
 fn show_graft(rt: &(impl Alloc + Print), c: cases::Case) -> io::Result<()> {
     let places = match tape::checked_book(c.tape, c.bytes) {
         Ok(places) => places,
-        Err(refusal) => return print!(rt; "refused {}", u32::from(refusal)),
+        Err(refusal) => return put_refused(rt, refusal),
     };
     let below = Totals {
         strings: wire::u32_or_zero(c.replacement, 0),
@@ -90,7 +96,7 @@ fn show_graft(rt: &(impl Alloc + Print), c: cases::Case) -> io::Result<()> {
         segments: wire::u32_or_zero(c.replacement, 8),
     };
     if !totals_fit(below) {
-        return print!(rt; "refused 18");
+        return put_refused(rt, Refusal::NoRoom);
     }
     let store = store::store_of(c.tape, places.layers);
     let source = Book {

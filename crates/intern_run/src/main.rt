@@ -10,10 +10,6 @@ ghost use Rattle.interner.specs.State.{Good};
 use interner::StrInterner;
 use std::io;
 
-fn put(rt: &impl Print, label: &str, n: u64) -> io::Result<()> {
-    print!(rt; "{label}{n}")
-}
-
 fn put_hash(rt: &impl Print, bytes: &[u8]) -> io::Result<()> {
     let h = hash::fx_hash(bytes);
     println!(rt; "{h:016x}")
@@ -23,21 +19,23 @@ fn put_hash(rt: &impl Print, bytes: &[u8]) -> io::Result<()> {
 fn show(rt: &impl Print, label: &str, st: &StrInterner, id: Option<u32>) -> io::Result<()> {
     let c = st.stats;
     let told = if id.is_some() { "ok" } else { "refused" };
-    print!(rt; "{label} {told}")?;
-    put(rt, " id ", id.unwrap_or(0) as u64)?;
-    put(rt, " slots ", st.slots as u64)?;
-    put(rt, " strings ", st.count as u64)?;
-    put(rt, " calls ", c.calls)?;
-    put(rt, " cache ", c.cache_hits)?;
-    put(rt, " table ", c.table_hits)?;
-    put(rt, " allocs ", c.allocs)?;
-    put(rt, " long ", c.long_bypass)?;
-    put(rt, " resizes ", c.resizes)?;
-    put(rt, " probes ", c.probe_steps)?;
-    println!(rt)
+    println!(rt;
+        "{label} {told} id {} slots {} strings {} calls {} cache {} table {} allocs {} long {} resizes {} probes {}",
+        id.unwrap_or(0),
+        st.slots,
+        st.count,
+        c.calls,
+        c.cache_hits,
+        c.table_hits,
+        c.allocs,
+        c.long_bypass,
+        c.resizes,
+        c.probe_steps,
+    )
 }
 
-// The state, the words and the bytes go side by side, as crate `intern` has them and for its reason.
+// The state, the words and the bytes go side by side: both buffers are written, and of a struct that holds a lent one each function would have
+// to promise that it is still the same.
 fn begin(work: &mut [u32], strs: &[u8]) -> StrInterner
     requires { 16384 ≤ length work.old }
     ensures { Good work.new strs.now result }
@@ -56,10 +54,8 @@ fn call(st: &mut StrInterner, work: &mut [u32], strs: &mut [u8], s: &[u8]) -> Op
     }
 }
 
-// The four digits of i, as bytes.
-fn digits(i: u32) -> [u8; 4]
-    ensures { result ≡ ((48 + i / 1000 % 10) ∷ (48 + i / 100 % 10) ∷ (48 + i / 10 % 10) ∷ (48 + i % 10) ∷ []) }
-{
+// The four digits of i, as bytes; `{i:04}` would be written to a stream, which may fail.
+fn digits(i: u32) -> [u8; 4] {
     [
         (48 + i / 1000 % 10) as u8,
         (48 + i / 100 % 10) as u8,
@@ -140,39 +136,28 @@ fn one(rt: &impl Print) -> io::Result<()> {
     show(rt, "one string", &st, id)
 }
 
-// Calls for the three strings of four bytes in s.
-fn three(st: &mut StrInterner, work: &mut [u32], strs: &mut [u8], s: &[u8]) -> Option<u32>
-    requires good { Good work.old strs.old st.old }
-    requires s_len { length s.now ≡ 12 }
+// Calls for the strings of four bytes in s, one after the other.
+fn each(st: &mut StrInterner, work: &mut [u32], strs: &mut [u8], s: &[u8]) -> Option<u32>
+    requires { Good work.old strs.old st.old }
     ensures { Good work.new strs.new st.new }
 {
-    call(st, work, strs, &s[0..4]);
-    call(st, work, strs, &s[4..8]);
-    call(st, work, strs, &s[8..12])
-}
-
-fn nine(st: &mut StrInterner, work: &mut [u32], strs: &mut [u8], s: &[u8]) -> Option<u32>
-    requires good { Good work.old strs.old st.old }
-    requires s_len { length s.now ≡ 36 }
-    ensures { Good work.new strs.new st.new }
-{
-    three(st, work, strs, &s[0..12]);
-    three(st, work, strs, &s[12..24]);
-    three(st, work, strs, &s[24..36])
+    let mut id = None;
+    for part in s.chunks(4) {
+        id = call(st, work, strs, part);
+    }
+    id
 }
 
 // Wish 7. Nine strings of four bytes that begin at one slot: the k-th costs k probes, when it is new and each time that it is found.
 // The ninth, behind a long one so that it is no cache hit, costs 9, the most that the ceiling lets a call cost.
-fn one_slot(rt: &impl Print, label: &str, s: &[u8]) -> io::Result<()>
-    requires { length s.now ≡ 36 }
-{
+fn one_slot(rt: &impl Print, label: &str, s: &[u8; 36]) -> io::Result<()> {
     let ninth = &s[32..36];
     let mut work = [0u32; 16384];
     let mut strs = [0u8; 128];
     let mut st = begin(&mut work, &strs);
-    let id = nine(&mut st, &mut work, &mut strs, s);
+    let id = each(&mut st, &mut work, &mut strs, s);
     show(rt, label, &st, id)?;
-    let id = nine(&mut st, &mut work, &mut strs, s);
+    let id = each(&mut st, &mut work, &mut strs, s);
     show(rt, "each again", &st, id)?;
     let long = [97u8; 65];
     let id = call(&mut st, &mut work, &mut strs, &long);

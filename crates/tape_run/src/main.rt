@@ -3,8 +3,6 @@
 // stored beside them.
 #![tactic(auto)]
 
-use copy::Copied;
-use lookup::{RangeAt, StrAt};
 use refusal::Refusal;
 use std::io;
 use std::io::Read;
@@ -16,9 +14,31 @@ fn put_hex(rt: &impl Print, s: &[u8]) -> io::Result<()> {
     Ok(())
 }
 
-fn put_copied(rt: &impl Print, a: Result<Copied, Refusal>) -> io::Result<()> {
-    match a {
-        Ok(Copied { tape, bytes }) => print!(rt; "{tape} {bytes}"),
+// What is answered, or the number of the refusal.
+fn put_told<T: Drop, Put: FnOnce(T) -> io::Result<()>>(
+    rt: &impl Print,
+    told: Result<T, Refusal>,
+    put: Put,
+) -> io::Result<()>
+    requires { Put.IsAlwaysCallable put }
+{
+    match told {
+        Ok(answer) => put(answer),
+        Err(refusal) => print!(rt; "refused {}", u32::from(refusal)),
+    }
+}
+
+// The same of what may be none.
+fn put_found<T: Drop, Put: FnOnce(T) -> io::Result<()>>(
+    rt: &impl Print,
+    told: Result<Option<T>, Refusal>,
+    put: Put,
+) -> io::Result<()>
+    requires { Put.IsAlwaysCallable put }
+{
+    match told {
+        Ok(Some(answer)) => put(answer),
+        Ok(None) => print!(rt; "none"),
         Err(refusal) => print!(rt; "refused {}", u32::from(refusal)),
     }
 }
@@ -28,31 +48,13 @@ fn copy(rt: &impl Print, tape: &[u8], bytes: &[u8]) -> io::Result<()> {
     let mut out_tape = [7u8; 2048];
     let mut out_bytes = [7u8; 64];
     print!(rt; "  copy: ")?;
-    put_copied(
-        rt,
-        copy::copy_book(tape, bytes, &mut out_tape, &mut out_bytes),
-    )?;
+    let copied = copy::copy_book(tape, bytes, &mut out_tape, &mut out_bytes);
+    put_told(rt, copied, |c| print!(rt; "{} {}", c.tape, c.bytes))?;
     print!(rt; ", ")?;
     put_hex(rt, wire::between(&out_tape, 0, 16))?;
     print!(rt; " ")?;
     put_hex(rt, wire::between(&out_bytes, 0, 16))?;
     println!(rt)
-}
-
-fn put_allowed(rt: &impl Print, a: Result<bool, Refusal>) -> io::Result<()> {
-    match a {
-        Ok(true) => print!(rt; "yes"),
-        Ok(false) => print!(rt; "no"),
-        Err(refusal) => print!(rt; "refused {}", u32::from(refusal)),
-    }
-}
-
-fn put_node(rt: &impl Print, a: Result<Option<usize>, Refusal>) -> io::Result<()> {
-    match a {
-        Ok(Some(i)) => print!(rt; "{i}"),
-        Ok(None) => print!(rt; "none"),
-        Err(refusal) => print!(rt; "refused {}", u32::from(refusal)),
-    }
 }
 
 // How many records, and where the first stands, if there is one.
@@ -71,22 +73,6 @@ fn put_string(rt: &impl Print, bytes: &[u8], start: usize, end: usize) -> io::Re
     print!(rt; "\"")
 }
 
-fn put_str(rt: &impl Print, bytes: &[u8], a: Result<Option<StrAt>, Refusal>) -> io::Result<()> {
-    match a {
-        Ok(Some(StrAt { start, end })) => put_string(rt, bytes, start, end),
-        Ok(None) => print!(rt; "none"),
-        Err(refusal) => print!(rt; "refused {}", u32::from(refusal)),
-    }
-}
-
-fn put_range(rt: &impl Print, a: Result<Option<RangeAt>, Refusal>) -> io::Result<()> {
-    match a {
-        Ok(Some(RangeAt { place, count })) => put_records(rt, place, count),
-        Ok(None) => print!(rt; "none"),
-        Err(refusal) => print!(rt; "refused {}", u32::from(refusal)),
-    }
-}
-
 fn ask(rt: &impl Print, c: cases::Case) -> io::Result<()> {
     let cases::Case {
         tape,
@@ -97,29 +83,37 @@ fn ask(rt: &impl Print, c: cases::Case) -> io::Result<()> {
     } = c;
     copy(rt, tape, bytes)?;
     print!(rt; "  diagnostics: ")?;
-    put_allowed(rt, lookup::diagnostics_allow_incremental(tape, bytes))?;
+    let allowed = lookup::diagnostics_allow_incremental(tape, bytes);
+    put_told(rt, allowed, |yes| {
+        let word = if yes { "yes" } else { "no" };
+        print!(rt; "{word}")
+    })?;
     print!(rt; "\n  node at {start}: ")?;
-    put_node(rt, lookup::node_at_source(tape, bytes, start))?;
+    let node = lookup::node_at_source(tape, bytes, start);
+    put_found(rt, node, |i| print!(rt; "{i}"))?;
     print!(rt; "\n  string {start}: ")?;
-    put_str(rt, bytes, lookup::lookup_str(tape, bytes, start))?;
+    let string = lookup::lookup_str(tape, bytes, start);
+    put_found(rt, string, |s| put_string(rt, bytes, s.start, s.end))?;
     print!(rt; "\n  contents {start} {end}: ")?;
-    put_range(rt, lookup::lookup_contents(tape, bytes, start, end))?;
+    let contents = lookup::lookup_contents(tape, bytes, start, end);
+    put_found(rt, contents, |r| put_records(rt, r.place, r.count))?;
     print!(rt; "\n  segments {start} {end}: ")?;
-    put_range(rt, lookup::lookup_segments(tape, bytes, start, end))?;
+    let segments = lookup::lookup_segments(tape, bytes, start, end);
+    put_found(rt, segments, |r| put_records(rt, r.place, r.count))?;
     println!(rt)
 }
 
-// 0 where it is accepted.
+// 0 where it is accepted. `answers::number_answer` says the same, but its crate stands on those of the merge, which this program does without.
 fn number(a: Result<(), Refusal>) -> u32 {
     a.err().map_or(0, u32::from)
 }
 
 fn show(rt: &impl Print, c: cases::Case) -> io::Result<()> {
-    let book = number(tape::check_book(c.tape, c.bytes));
-    let reading = number(tape::check_reading(c.tape, c.bytes));
+    let book = tape::check_book(c.tape, c.bytes);
+    let reading = tape::check_reading(c.tape, c.bytes);
     rt.write_all(c.label)?;
-    println!(rt; ": check {book}, reading {reading}")?;
-    if book == 0 {
+    println!(rt; ": check {}, reading {}", number(book), number(reading))?;
+    if book.is_ok() {
         ask(rt, c)?;
     }
     Ok(())

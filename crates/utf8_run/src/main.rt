@@ -1,5 +1,5 @@
-// RFC 3629's boundary vectors: a line for each group, its name and a verdict for each vector, 1 for UTF-8 and 0 for none. The
-// stored output is what Rust's core::str::from_utf8 and str::is_char_boundary answer.
+// RFC 3629's boundary vectors: a line for each group, its name and a verdict for each vector, 1 for UTF-8 and 0 for none; in the last line
+// one for each place, 1 for a character's bound. The stored output is what Rust's core::str::from_utf8 and str::is_char_boundary answer.
 #![tactic(auto)]
 
 ghost use Rattle.std.specs.Prelude.{◌≤◌};
@@ -18,53 +18,75 @@ fn try_cut(rt: &impl Print, s: &[u8]) -> io::Result<()> {
     print!(rt; " ")
 }
 
-fn lengths(rt: &impl Print) -> io::Result<()> {
-    print!(rt; "first and last of each length, cut short and whole: ")?;
-    try_cut(rt, b"\x00")?;
-    try_cut(rt, b"\x7f")?;
-    try_cut(rt, b"\xc2\x80")?;
-    try_cut(rt, b"\xdf\xbf")?;
-    try_cut(rt, b"\xe0\xa0\x80")?;
-    try_cut(rt, b"\xef\xbf\xbf")?;
-    try_cut(rt, b"\xf0\x90\x80\x80")?;
-    try_cut(rt, b"\xf4\x8f\xbf\xbf")?;
+// A line: its label, and a verdict for each of these.
+fn try_each(rt: &impl Print, label: &str, vectors: &[&[u8]]) -> io::Result<()> {
+    print!(rt; "{label}: ")?;
+    for s in vectors {
+        try_bytes(rt, s)?;
+    }
     println!(rt)
+}
+
+// A line: its label, and verdicts for each beginning of each of these.
+fn try_cuts(rt: &impl Print, label: &str, vectors: &[&[u8]]) -> io::Result<()> {
+    print!(rt; "{label}, cut short and whole: ")?;
+    for s in vectors {
+        try_cut(rt, s)?;
+    }
+    println!(rt)
+}
+
+fn lengths(rt: &impl Print) -> io::Result<()> {
+    let vectors: [&[u8]; 8] = [
+        b"\x00",
+        b"\x7f",
+        b"\xc2\x80",
+        b"\xdf\xbf",
+        b"\xe0\xa0\x80",
+        b"\xef\xbf\xbf",
+        b"\xf0\x90\x80\x80",
+        b"\xf4\x8f\xbf\xbf",
+    ];
+    try_cuts(rt, "first and last of each length", &vectors)
 }
 
 fn surrogates(rt: &impl Print) -> io::Result<()> {
-    print!(rt; "D7FF, D800, DFFF, E000: ")?;
-    try_bytes(rt, b"\xed\x9f\xbf")?;
-    try_bytes(rt, b"\xed\xa0\x80")?;
-    try_bytes(rt, b"\xed\xbf\xbf")?;
-    try_bytes(rt, b"\xee\x80\x80")?;
-    println!(rt)
+    let vectors: [&[u8]; 4] = [
+        b"\xed\x9f\xbf",
+        b"\xed\xa0\x80",
+        b"\xed\xbf\xbf",
+        b"\xee\x80\x80",
+    ];
+    try_each(rt, "D7FF, D800, DFFF, E000", &vectors)
 }
 
 fn overlong(rt: &impl Print) -> io::Result<()> {
-    print!(rt; "overlong ends of two, three and four bytes: ")?;
-    try_bytes(rt, b"\xc0\x80")?;
-    try_bytes(rt, b"\xc1\xbf")?;
-    try_bytes(rt, b"\xe0\x80\x80")?;
-    try_bytes(rt, b"\xe0\x9f\xbf")?;
-    try_bytes(rt, b"\xf0\x80\x80\x80")?;
-    try_bytes(rt, b"\xf0\x8f\xbf\xbf")?;
-    println!(rt)
+    let vectors: [&[u8]; 6] = [
+        b"\xc0\x80",
+        b"\xc1\xbf",
+        b"\xe0\x80\x80",
+        b"\xe0\x9f\xbf",
+        b"\xf0\x80\x80\x80",
+        b"\xf0\x8f\xbf\xbf",
+    ];
+    try_each(rt, "overlong ends of two, three and four bytes", &vectors)
 }
 
 fn continuation(rt: &impl Print) -> io::Result<()> {
-    print!(rt; "lone and missing continuation bytes: ")?;
-    try_bytes(rt, b"\x80")?;
-    try_bytes(rt, b"\xbf")?;
-    try_bytes(rt, b"a\x80")?;
-    try_bytes(rt, b"\xe3\x81\x82\x80")?;
-    try_bytes(rt, b"\xc2a")?;
-    try_bytes(rt, b"\xc2\xc2\x80")?;
-    try_bytes(rt, b"\xe3\x81a")?;
-    try_bytes(rt, b"\xe3a\x82")?;
-    try_bytes(rt, b"\xf0\x90\x80a")?;
-    try_bytes(rt, b"\xf0\x90a\x80")?;
-    try_bytes(rt, b"\xf0a\x80\x80")?;
-    println!(rt)
+    let vectors: [&[u8]; 11] = [
+        b"\x80",
+        b"\xbf",
+        b"a\x80",
+        b"\xe3\x81\x82\x80",
+        b"\xc2a",
+        b"\xc2\xc2\x80",
+        b"\xe3\x81a",
+        b"\xe3a\x82",
+        b"\xf0\x90\x80a",
+        b"\xf0\x90a\x80",
+        b"\xf0a\x80\x80",
+    ];
+    try_each(rt, "lone and missing continuation bytes", &vectors)
 }
 
 // Every first byte from 80 on, with this second byte and tails 80 behind it, to n bytes.
@@ -98,22 +120,11 @@ fn each_length(rt: &impl Print) -> io::Result<()> {
 }
 
 // A byte put at each place of a run that is read in blocks.
-fn ascii_with(rt: &impl Print, byte: u8) -> io::Result<()> {
-    for i in 0..76 {
-        let mut ascii = [b'a'; 76];
-        ascii[i] = byte;
-        try_bytes(rt, &ascii)?;
-    }
-    println!(rt)
-}
-
-fn kana_with(rt: &impl Print, byte: u8) -> io::Result<()> {
-    for i in 0..12 {
-        let mut kana = [
-            0xe3, 0x81, 0x82, 0xe3, 0x81, 0x84, 0xe3, 0x81, 0x86, 0xe3, 0x81, 0x88,
-        ];
-        kana[i] = byte;
-        try_bytes(rt, &kana)?;
+fn each_place<const N: usize>(rt: &impl Print, run: [u8; N], byte: u8) -> io::Result<()> {
+    for i in 0..N {
+        let mut changed = run;
+        changed[i] = byte;
+        try_bytes(rt, &changed)?;
     }
     println!(rt)
 }
@@ -121,46 +132,47 @@ fn kana_with(rt: &impl Print, byte: u8) -> io::Result<()> {
 fn ascii_blocks(rt: &impl Print) -> io::Result<()> {
     for byte in b"\x7f\x80\xe3" {
         print!(rt; "{byte:02X} in 76 ASCII bytes: ")?;
-        ascii_with(rt, *byte)?;
+        each_place(rt, [b'a'; 76], *byte)?;
     }
     Ok(())
 }
 
 fn kana_blocks(rt: &impl Print) -> io::Result<()> {
+    let kana = *b"\xe3\x81\x82\xe3\x81\x84\xe3\x81\x86\xe3\x81\x88";
     for byte in b"\x7f\x80\xbf\xe3" {
         print!(rt; "{byte:02X} in four kana: ")?;
-        kana_with(rt, *byte)?;
+        each_place(rt, kana, *byte)?;
     }
-    print!(rt; "four kana, cut short and whole: ")?;
-    try_cut(rt, b"\xe3\x81\x82\xe3\x81\x84\xe3\x81\x86\xe3\x81\x88")?;
-    println!(rt)?;
-    print!(rt; "mixed text, cut short and whole: ")?;
-    try_cut(
+    try_cuts(rt, "four kana", &[&kana])?;
+    try_cuts(
         rt,
-        b"abcdefgh\xe3\x81\x82\xc3\xa9ijk\xf0\xa0\x80\x8b\xed\x95\x9clmnopqrstu",
-    )?;
-    println!(rt)
+        "mixed text",
+        &[b"abcdefgh\xe3\x81\x82\xc3\xa9ijk\xf0\xa0\x80\x8b\xed\x95\x9clmnopqrstu"],
+    )
 }
 
 fn blocks(rt: &impl Print) -> io::Result<()> {
-    print!(rt; "seven times nine characters, cut short and whole: ")?;
-    try_cut(
+    try_cuts(
         rt,
-        b"a\x0a\xe3\x81\x82\xc3\xa9\xe6\xbc\xa2\xe3\x80\x81\x0a\xef\xbd\xb1\xef\xbd\x9ca\x0a\xe3\x81\x82\xc3\xa9\xe6\xbc\xa2\xe3\x80\x81\x0a\xef\xbd\xb1\xef\xbd\x9ca\x0a\xe3\x81\x82\xc3\xa9\xe6\xbc\xa2\xe3\x80\x81\x0a\xef\xbd\xb1\xef\xbd\x9ca\x0a\xe3\x81\x82\xc3\xa9\xe6\xbc\xa2\xe3\x80\x81\x0a\xef\xbd\xb1\xef\xbd\x9ca\x0a\xe3\x81\x82\xc3\xa9\xe6\xbc\xa2\xe3\x80\x81\x0a\xef\xbd\xb1\xef\xbd\x9ca\x0a\xe3\x81\x82\xc3\xa9\xe6\xbc\xa2\xe3\x80\x81\x0a\xef\xbd\xb1\xef\xbd\x9ca\x0a\xe3\x81\x82\xc3\xa9\xe6\xbc\xa2\xe3\x80\x81\x0a\xef\xbd\xb1\xef\xbd\x9c",
+        "seven times nine characters",
+        &[
+            b"a\x0a\xe3\x81\x82\xc3\xa9\xe6\xbc\xa2\xe3\x80\x81\x0a\xef\xbd\xb1\xef\xbd\x9ca\x0a\xe3\x81\x82\xc3\xa9\xe6\xbc\xa2\xe3\x80\x81\x0a\xef\xbd\xb1\xef\xbd\x9ca\x0a\xe3\x81\x82\xc3\xa9\xe6\xbc\xa2\xe3\x80\x81\x0a\xef\xbd\xb1\xef\xbd\x9ca\x0a\xe3\x81\x82\xc3\xa9\xe6\xbc\xa2\xe3\x80\x81\x0a\xef\xbd\xb1\xef\xbd\x9ca\x0a\xe3\x81\x82\xc3\xa9\xe6\xbc\xa2\xe3\x80\x81\x0a\xef\xbd\xb1\xef\xbd\x9ca\x0a\xe3\x81\x82\xc3\xa9\xe6\xbc\xa2\xe3\x80\x81\x0a\xef\xbd\xb1\xef\xbd\x9ca\x0a\xe3\x81\x82\xc3\xa9\xe6\xbc\xa2\xe3\x80\x81\x0a\xef\xbd\xb1\xef\xbd\x9c",
+        ],
     )?;
-    println!(rt)?;
-    print!(rt; "four bytes in a block, cut short and whole: ")?;
-    try_cut(
+    try_cuts(
         rt,
-        b"a\x0a\xe3\x81\x82\xc3\xa9\xe6\xbc\xa2\xe3\x80\x81\x0a\xef\xbd\xb1\xef\xbd\x9ca\x0a\xe3\x81\x82\xc3\xa9\xe6\xbc\xa2\xe3\x80\x81\x0a\xef\xbd\xb1\xef\xbd\x9ca\x0a\xe3\x81\x82\xc3\xa9\xe6\xbc\xa2\xe3\x80\x81\x0a\xef\xbd\xb1\xef\xbd\x9ca\x0a\xe3\x81\x82\xc3\xa9\xe6\xbc\xa2\xe3\x80\x81\x0a\xef\xbd\xb1\xef\xbd\x9c\xf0\xa0\x80\x8ba\x0a\xe3\x81\x82\xc3\xa9\xe6\xbc\xa2\xe3\x80\x81\x0a\xef\xbd\xb1\xef\xbd\x9ca\x0a\xe3\x81\x82\xc3\xa9\xe6\xbc\xa2\xe3\x80\x81\x0a\xef\xbd\xb1\xef\xbd\x9ca\x0a\xe3\x81\x82\xc3\xa9\xe6\xbc\xa2\xe3\x80\x81\x0a\xef\xbd\xb1\xef\xbd\x9c",
+        "four bytes in a block",
+        &[
+            b"a\x0a\xe3\x81\x82\xc3\xa9\xe6\xbc\xa2\xe3\x80\x81\x0a\xef\xbd\xb1\xef\xbd\x9ca\x0a\xe3\x81\x82\xc3\xa9\xe6\xbc\xa2\xe3\x80\x81\x0a\xef\xbd\xb1\xef\xbd\x9ca\x0a\xe3\x81\x82\xc3\xa9\xe6\xbc\xa2\xe3\x80\x81\x0a\xef\xbd\xb1\xef\xbd\x9ca\x0a\xe3\x81\x82\xc3\xa9\xe6\xbc\xa2\xe3\x80\x81\x0a\xef\xbd\xb1\xef\xbd\x9c\xf0\xa0\x80\x8ba\x0a\xe3\x81\x82\xc3\xa9\xe6\xbc\xa2\xe3\x80\x81\x0a\xef\xbd\xb1\xef\xbd\x9ca\x0a\xe3\x81\x82\xc3\xa9\xe6\xbc\xa2\xe3\x80\x81\x0a\xef\xbd\xb1\xef\xbd\x9ca\x0a\xe3\x81\x82\xc3\xa9\xe6\xbc\xa2\xe3\x80\x81\x0a\xef\xbd\xb1\xef\xbd\x9c",
+        ],
     )?;
-    println!(rt)?;
-    print!(rt; "C1 80 in a block, cut short and whole: ")?;
-    try_cut(
+    try_cuts(
         rt,
-        b"a\x0a\xe3\x81\x82\xc3\xa9\xe6\xbc\xa2\xe3\x80\x81\x0a\xef\xbd\xb1\xef\xbd\x9ca\x0a\xe3\x81\x82\xc3\xa9\xe6\xbc\xa2\xe3\x80\x81\x0a\xef\xbd\xb1\xef\xbd\x9ca\x0a\xe3\x81\x82\xc3\xa9\xe6\xbc\xa2\xe3\x80\x81\x0a\xef\xbd\xb1\xef\xbd\x9ca\x0a\xe3\x81\x82\xc3\xa9\xe6\xbc\xa2\xe3\x80\x81\x0a\xef\xbd\xb1\xef\xbd\x9c\xc1\x80a\x0a\xe3\x81\x82\xc3\xa9\xe6\xbc\xa2\xe3\x80\x81\x0a\xef\xbd\xb1\xef\xbd\x9ca\x0a\xe3\x81\x82\xc3\xa9\xe6\xbc\xa2\xe3\x80\x81\x0a\xef\xbd\xb1\xef\xbd\x9c",
-    )?;
-    println!(rt)
+        "C1 80 in a block",
+        &[
+            b"a\x0a\xe3\x81\x82\xc3\xa9\xe6\xbc\xa2\xe3\x80\x81\x0a\xef\xbd\xb1\xef\xbd\x9ca\x0a\xe3\x81\x82\xc3\xa9\xe6\xbc\xa2\xe3\x80\x81\x0a\xef\xbd\xb1\xef\xbd\x9ca\x0a\xe3\x81\x82\xc3\xa9\xe6\xbc\xa2\xe3\x80\x81\x0a\xef\xbd\xb1\xef\xbd\x9ca\x0a\xe3\x81\x82\xc3\xa9\xe6\xbc\xa2\xe3\x80\x81\x0a\xef\xbd\xb1\xef\xbd\x9c\xc1\x80a\x0a\xe3\x81\x82\xc3\xa9\xe6\xbc\xa2\xe3\x80\x81\x0a\xef\xbd\xb1\xef\xbd\x9ca\x0a\xe3\x81\x82\xc3\xa9\xe6\xbc\xa2\xe3\x80\x81\x0a\xef\xbd\xb1\xef\xbd\x9c",
+        ],
+    )
 }
 
 fn bounds(rt: &impl Print) -> io::Result<()> {
