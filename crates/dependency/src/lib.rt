@@ -223,10 +223,7 @@ fn last_targets(nodes: &Nodes, from: u32, places: &mut [u64]) -> usize
 {
     let long = long_from(&nodes.strings);
     let mut m = 0;
-    let mut n = nodes.run.count;
-    // From the last on: the places of a reversed range are not known to be below its end.
-    while 0 < n {
-        n -= 1;
+    for n in (0..nodes.run.count).rev() {
         if nodes.asks_target(n, from) {
             m = note_place(nodes, n, long, places, m);
         }
