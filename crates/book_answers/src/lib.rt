@@ -1,5 +1,6 @@
-// What is asked of a book alone, answered as C has it: an entry, its answer as crate `answers` tells it. The C functions of crate `exports` hand on to these, with
-// the same contracts word for word.
+// What is asked of a book alone, answered as C has it: each entry's answer goes through crate `answers`. The C functions of crate `exports` hand
+// on to these, with the same contracts word for word. They stand twice so that an edit can be tried where the contract is (docs/EDITS.md): a
+// change in `exports` is checked with the whole house below it, and a change here with what a book alone needs.
 #![tactic(auto)]
 
 ghost use Rattle.std.specs.Prelude.{◌≡◌, length};

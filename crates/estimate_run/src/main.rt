@@ -11,6 +11,7 @@ use refusal::Refusal;
 use std::io;
 use std::io::Read;
 
+// crate `vectors` parts a replacement likewise, but by a head of other words
 const HEAD: usize = 12;
 
 fn put_price(rt: &impl Print, answer: Result<Price, Refusal>) -> io::Result<()> {

@@ -20,7 +20,8 @@ use std::io::Write;
 
 const MAX_PART: u32 = 65536;
 
-// A book that is shown, and the region of an edit, where there is one.
+// A book that is shown, and the region of an edit, where there is one. It has no store, as `listing::Book` has: that one lives where the lines
+// are printed, and this is answered before.
 #[derive(Clone, Copy)]
 struct Asked<'a> {
     tape: &'a [u8],
@@ -30,6 +31,8 @@ struct Asked<'a> {
 }
 
 // ---- the input
+
+// Each of these reads the head's two words for itself, as its definition does (specs/Inspect.antt).
 
 fn tape_in<'a>(input: &'a [u8]) -> &'a [u8]
     ensures { result.now ≡ tape_in input.now }
@@ -178,7 +181,7 @@ impl<'a> Asked<'a> {
             region: self.region,
         };
         let mut c = listing::first_line();
-        // no `for`: each record says how long it is
+        // no `for`: each record says how long it is, and an `Iterator` would have to promise of each what `put_line` and `next_line` ask
         while c.at < self.tape.len() {
             book.put_line(line, c);
             print(writer, line)?;

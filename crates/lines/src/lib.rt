@@ -112,6 +112,7 @@ fn is_plain(b: u8) -> bool
     32 <= b && b != 127
 }
 
+// A byte in two digits would be formatted to a stream, which may fail; a line with room does not.
 #[tactic(auto, using(std::proofs::lemmas::Bool::Decides::nat_tests))]
 fn hex_digit(d: u8) -> u8
     requires { d < 16 }

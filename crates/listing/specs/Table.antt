@@ -41,12 +41,6 @@ labels =
     ∷ ascii " Bracket" ∷ ascii " Ruby" ∷ ascii " AngleQuote" ∷ ascii " Tortoise" ∷ ascii " Quote"  -- `PairKind`, from 9 on
     ∷ ascii " UnresolvedGaiji" ∷ ascii " NonCanonicalDirective" ∷ ascii " UnclosedBracket" ∷ ascii " UnmatchedClose" ∷ ascii " Other"  -- a diagnostic's kinds, from 14 on
     ∷ ascii " text" ∷ ascii " Ruby" ∷ ascii " Format" ∷ ascii " Gaiji" ∷ ascii " Line" ∷ ascii " PageBreak" ∷ ascii " SectionBreak" ∷ ascii " BodyEnd" ∷ ascii " ForcedBreak" ∷ ascii " Heading" ∷ ascii " HeadingHint" ∷ ascii " Illustration" ∷ ascii " Kaeriten" ∷ ascii " Directive" ∷ ascii " AngleQuote" ∷ ascii " MarginNote"  -- a body's kinds, the `Node` enum, from 19 on
-    ∷ ascii "text " ∷ ascii " normalized " ∷ ascii " " ∷ ascii "layer " ∷ ascii "string " ∷ ascii "content " ∷ ascii " plain " ∷ ascii "segment "  -- 35
-    ∷ ascii " level " ∷ ascii " tag " ∷ ascii "node " ∷ ascii ".." ∷ ascii " at " ∷ ascii "pair " ∷ ascii "container " ∷ ascii " open "  -- 43
-    ∷ ascii " close " ∷ ascii "diagnostic " ∷ ascii " code " ∷ ascii "end" ∷ ascii " region " ∷ ascii " | " ∷ ascii " segments " ∷ ascii " inline "  -- 51
-    ∷ ascii " string " ∷ ascii " base " ∷ ascii " reading " ∷ ascii " target " ∷ ascii " payload " ∷ ascii " hint " ∷ ascii " mencode " ∷ ascii " text "  -- 59
-    ∷ ascii " file " ∷ ascii " number " ∷ ascii " dimensions " ∷ ascii " description " ∷ ascii " caption " ∷ ascii " mark " ∷ ascii " raw " ∷ ascii " content "  -- 67
-    ∷ ascii " note "  -- 75
     ∷ []
 
 abbrev pub segment_tags : ℕ

@@ -25,7 +25,8 @@ use records::Use;
 use span::Span;
 use tables::{Field, LABELS, Part, ROWS, SIZES, Shows, WORD_LABELS};
 
-// A book that has passed 1 to 7, its store, and the region of an edit, where there is one.
+// A book that has passed 1 to 7, its store, and the region of an edit, where there is one. It is no `region::Book`, which also has the places,
+// that no line needs, and does not say that every string has room on a line.
 #[derive(Clone, Copy)]
 pub struct Book<'a> {
     pub tape: &'a [u8],
@@ -42,7 +43,8 @@ pub struct Cursor {
     pub seen: [usize; 11],
 }
 
-// What stands behind a label, each in its own form (an `Option` of three of them would be matched twice): nothing, a number, the string of an id, or the bytes of the buffer from one place up to another.
+// What stands behind a label, each in its own form (an `Option` of three of them would be matched twice): nothing, a number, the string of an
+// id, or the bytes of the buffer from one place up to another.
 #[derive(Clone, Copy)]
 enum Value {
     Nothing,
@@ -60,7 +62,7 @@ struct Item(&'static [u8], Value);
 fn label(i: usize) -> &'static [u8]
     ensures { result.now ≡ get_or labels i [] }
 {
-    if i < 76 { LABELS[i] } else { b"" }
+    if i < 35 { LABELS[i] } else { b"" }
 }
 
 #[tactic(auto, unfolding(crate::specs::Table::word_labels))]
@@ -84,7 +86,8 @@ fn fields(row: usize) -> &'static [Field]
     ROWS[row]
 }
 
-// The row of a record by its command and the byte behind it.
+// The row of a record by its command and the byte behind it. Both are numbers here, as in the definition: the rows are data, which specs/Coded.antt
+// compares with specs/Table.antt row by row, and a name for each would have to be compared too.
 #[tactic(auto, using(std::proofs::lemmas::Bool::Decides::nat_tests), unfolding(crate::specs::Listing::row_for))]
 fn row_for(command: u8, edit: bool, second: u8) -> usize
     ensures { result ≡ row_for command edit second }
@@ -99,6 +102,8 @@ fn row_for(command: u8, edit: bool, second: u8) -> usize
 }
 
 // ---- what a field shows
+
+// A record's place is another at each line, so each function asks for it: a struct of it and the book would be made anew for that alone.
 
 impl<'a> Book<'a> {
     // The byte or the word at a place of the record at `at`.

@@ -1,4 +1,4 @@
-// The rows of specs/Table.antt; specs/Coded.antt proves that these are the same.
+// The rows, labels, word labels and sizes of specs/Table.antt; specs/Coded.antt proves that these are the same.
 
 use Shows::{
     BodyWord, Byte, LabelOnly, Name, Ordinal, OwnString, RegionEnd, RegionStart, StringId,
@@ -40,7 +40,7 @@ pub enum Shows {
 #[derive(Clone, Copy)]
 pub struct Field(pub &'static [u8], pub Shows);
 
-// where in `LABELS` the names of each kind begin
+// where in `LABELS` the names of each kind begin: numbers, as specs/Table.antt has them, so that the rows are data that can be compared
 const SEGMENT_TAGS: u8 = 1;
 
 const NODE_CLASSES: u8 = 5;
@@ -51,7 +51,7 @@ const DIAGNOSTIC_KINDS: u8 = 14;
 
 const BODY_KINDS: u8 = 19;
 
-pub static LABELS: [&[u8]; 76] = [
+pub static LABELS: [&[u8]; 35] = [
     b"",
     b" Text",
     b" Gaiji",
@@ -87,47 +87,6 @@ pub static LABELS: [&[u8]; 76] = [
     b" Directive",
     b" AngleQuote",
     b" MarginNote",
-    b"text ",
-    b" normalized ",
-    b" ",
-    b"layer ",
-    b"string ",
-    b"content ",
-    b" plain ",
-    b"segment ",
-    b" level ",
-    b" tag ",
-    b"node ",
-    b"..",
-    b" at ",
-    b"pair ",
-    b"container ",
-    b" open ",
-    b" close ",
-    b"diagnostic ",
-    b" code ",
-    b"end",
-    b" region ",
-    b" | ",
-    b" segments ",
-    b" inline ",
-    b" string ",
-    b" base ",
-    b" reading ",
-    b" target ",
-    b" payload ",
-    b" hint ",
-    b" mencode ",
-    b" text ",
-    b" file ",
-    b" number ",
-    b" dimensions ",
-    b" description ",
-    b" caption ",
-    b" mark ",
-    b" raw ",
-    b" content ",
-    b" note ",
 ];
 
 pub static ROWS: [&[Field]; 14] = [

@@ -18,7 +18,8 @@ use refusal::Refusal;
 use std::io;
 use std::io::{Read, Write};
 
-// The merge that an input of the right length asks for.
+// The merge that an input of the right length asks for. The five lengths are read again: a struct of them would have to say all that `Whole`
+// says of an input that it does not hold.
 fn merge_parts(
     input: &[u8],
     out_tape: &mut [u8; 65536],

@@ -42,7 +42,8 @@ pub fn taken(a: Result<IncrementalOutput, Refusal>) -> (usize, usize)
     }
 }
 
-// What is not result is cleared: both result buffers behind as many bytes as the book takes of each, and all work words.
+// What is not result is cleared: both result buffers behind as many bytes as the book takes of each, and all work words. They are lent one by
+// one, as all buffers that are written: of a struct that holds them each function would have to promise that they are still the same.
 pub fn clear_rest(
     out_tape: &mut [u8],
     out_bytes: &mut [u8],

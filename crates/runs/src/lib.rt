@@ -15,6 +15,7 @@ use refusal::Refusal;
 // seven words
 pub const HEAD: usize = 28;
 
+// 'Runs' limits its parts by itself: no crate below has this number
 const MAX_PART: u32 = 65536;
 
 // Number 3. The lengths of the five parts.

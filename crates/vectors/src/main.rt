@@ -12,6 +12,7 @@ use refusal::Refusal;
 use std::io;
 use std::io::Read;
 
+// crate `estimate_run` parts a replacement likewise, but by a head of other words
 const HEAD: usize = 20;
 
 // P5's line, and both parts of the result.
