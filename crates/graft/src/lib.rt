@@ -68,6 +68,7 @@ pub struct Mark {
 
 // ---- strings. What is asked of the index and of the interner stands at each function, for its buffers are lent one by one, as those of the
 // walk below. The work words are not parted once: the interner asks for 16384 of them and leaves the last 1024 to the index; pairs stand behind.
+// So no `Strings` can lend the index while a string is interned, and its bytes are cut out here.
 
 // Where the bytes of a string of the source begin; `words` are the index of its strings.
 fn string_from(w: &Walk<'_>, words: &[u32], id: u32) -> usize

@@ -64,7 +64,8 @@ fn string_length(work: &[u32], k: usize) -> u32
     ((end - start) % 4294967296) as u32
 }
 
-// The records of the layer's strings.
+// The records of the layer's strings. Words and count go through this function and the next alone: a struct of both, with `Rising` as its fact,
+// would be made for one call.
 pub fn put_lengths(out: &mut [u8], at: usize, work: &[u32], count: usize)
     requires rising { Rising work.now count }
     requires count_in_bounds { at + 5 * count ≤ length out.old }
