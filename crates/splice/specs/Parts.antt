@@ -1,13 +1,14 @@
 -- Section 7's three parts of a merged list as one definition, and a loop that writes one of them, whatever kind its records are.
 use Rattle.std.specs.Prelude.{◌≡◌, Bool, true, false, cond, leb}
 use Rattle.std.proofs.Math.Path.{refl, sym, ap}
-use Rattle.std.proofs.Common.{◌∙◌, mul-zero, mul-one, mul-suc, mul-le-mul_left}
+use Rattle.std.proofs.Common.{◌∙◌, zero-add, mul-zero, mul-one, mul-suc, mul-le-mul_left}
 use Prim.Native.Nat.{ℕ, zero, suc, ◌+◌, ◌*◌, ◌≤◌, ◌<◌}
 use native.Mathlib.Omega.{arith}
 use Rattle.std.proofs.Math.Nat.{mul-add}
 use mathlib.Core.List.{List, [], ◌∷◌, ◌++◌, append-nil, map, flatten}
-use Rattle.std.proofs.Math.ListN.{length, length-append}
-use Rattle.model.specs.Lists.{keep}
+use Rattle.std.proofs.Math.ListN.{length, length-append, length-map}
+use Rattle.std.specs.List.{filter, range_with_len}
+use Rattle.model.specs.Lists.{keep, tabulate}
 use Rattle.model.specs.Tape.{Codec, record_size, record_at, records_at, record_bytes, records_bytes}
 use Rattle.model.specs.Merge.{MergeWindow, Located, kept_before, kept_behind}
 use Rattle.laws.specs.Lists.{map_append}
@@ -69,6 +70,17 @@ module _ {A : Type 0} (l : Located A) (w : MergeWindow) where
   unfolding part_of
   one_left p x h = rw h refl
 
+-- as many numbers pass a test as the items at them do
+kept_count : {A : Type 0} (test : A → Bool) (passes : ℕ → Bool) (n a : ℕ) (f : ℕ → A) → ((i : ℕ) → passes (a + i) ≡ test (f i)) → length (filter passes (range_with_len a n)) ≡ length (keep test (tabulate n f))
+kept_count test passes zero a f h = refl
+kept_count {A = A} test passes (suc n) a f h =
+    let here : passes a ≡ test (f zero) = ap passes (omega arith) ∙ h zero in
+    rw here (same (test (f zero)) _ _ (kept_count test passes n (a + 1) (λ i. f (suc i)) (λ i. ap passes (omega arith) ∙ h (suc i))))
+  where
+    same : (b : Bool) (xs : List ℕ) (ys : List A) → length xs ≡ length ys → length (cond b (a ∷ xs) xs) ≡ length (cond b (f zero ∷ ys) ys)
+    same true xs ys e = ap suc e
+    same false xs ys e = e
+
 -- A kind of record: its size, which a part does not change.
 pub record Kind {A : Type 0} (c : Codec A) (l : Located A) (z : ℕ) : Type 0 where
   pub size : record_size c ≡ z
@@ -113,20 +125,12 @@ module _ {A : Type 0} {c : Codec A} {l : Located A} {z : ℕ} (k : Kind c l z) (
       let e = ap length (ap (part_of l w p) r.is ∙ part_append l w p (records_at c t at i) r.rest) ∙ length-append (items i) (part_of l w p r.rest) in
       omega (arith, e)
 
-  -- the loop that counts
-  pub count_first : 0 ≡ length (items 0)
+  -- the chain that counts
+  pub counted : (n : ℕ) → length (filter (λ i. is_in l w p (record_at c t (at + z * i))) (range_with_len 0 n)) ≡ length (items n)
   unfolding records_at part_of
-  count_first = refl
-
-  module _ (i : ℕ) {m : ℕ} (h : m ≡ length (items i)) (q : ℕ) (e : q ≡ at + z * i) {b : Bool} (a : b ≡ is_in l w p (record_at c t q)) where
-    counted : b ≡ is_in l w p (item i)
-    counted = a ∙ ap (λ (k : ℕ). is_in l w p (record_at c t k)) (rw k.size e)
-
-    pub count_more : {x : ℕ} → x ≡ cond b 1 0 → m + x ≡ length (items (i + 1))
-    count_more f =
-        let one : length (part_of l w p (item i ∷ [])) ≡ cond b 1 0 =
-        by_bool b (λ y. rw y (ap length (one_kept l w p (item i) (sym counted ∙ y)))) (λ y. rw y (ap length (one_left l w p (item i) (sym counted ∙ y)))) in
-        omega (arith, h, f, one, ap length (items_more i), length-append (items i) (part_of l w p (item i ∷ [])))
+  counted n =
+      kept_count (is_in l w p) (λ i. is_in l w p (record_at c t (at + z * i))) n 0 item (λ i. rw (zero-add i, k.size) refl)
+      ∙ sym (length-map (keep (is_in l w p) (tabulate n item)) (as_in l w p))
 
   bytes_more : (i : ℕ) → records_bytes c (items (i + 1)) ≡ records_bytes c (items i) ++ item_bytes c l w p (item i)
   unfolding item_bytes

@@ -35,15 +35,17 @@ impl<'a, K: Spliced> Section<'a, K> {
         }
     }
 
-    // How many records are in a part. Counted by hand: `filter(..).count()` was tried, and that it counts `part_of` did not close.
+    // How many records are in a part.
     fn count_part(&self, w: Window, part: Part) -> usize
         ensures { result ≡ length (part_of K.located (window_value w) part (records_at K.codec self.now.tape.now self.now.run.at self.now.run.count)) }
     {
-        let mut n = 0;
-        for i in 0..self.run.count {
-            n += usize::from(is_in::<K>(self.tape, self.run.at + K::SIZE * i, w, part));
-        }
-        n
+        (0..self.run.count)
+            .filter(
+                |i|
+                    requires { self.now.run.at + K.SIZE * i.now + K.SIZE ≤ length self.now.tape.now }
+                { is_in::<K>(self.tape, self.run.at + K::SIZE * *i, w, part) },
+            )
+            .count()
     }
 
     // The parts by name, as the model has them: `kept_before`, `kept_behind`, the reading placed. Who calls needs no `part_of`.
