@@ -201,7 +201,7 @@ fn run<W: Write>(
 {
     match Asked::read(input, words) {
         Err(refusal) => {
-            line.put_refused(refusal);
+            line.put_refused(u32::from(refusal));
             print(writer, line)
         }
         Ok(asked) => {

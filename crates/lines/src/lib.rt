@@ -4,11 +4,8 @@
 
 ghost use Rattle.std.specs.Prelude.{◌≡◌, [], ◌+◌, ◌*◌, ◌≤◌, ◌<◌, length};
 ghost use Rattle.io.specs.Digits.{hex_digit_ascii};
-ghost use Rattle.refusal.specs.Refusal.{number};
 ghost use Rattle.lines.specs.Text.{numbered, refused_line};
 ghost use Rattle.lines.specs.Quoted.{is_plain, escaped, escapes, quoted};
-
-use refusal::Refusal;
 
 // The first `len` bytes of the buffer.
 #[derive(Drop)]
@@ -62,12 +59,12 @@ impl<'a> Line<'a> {
         self.put_text(&digits[..k]);
     }
 
-    // `refused N`, the number of the refusal, and a newline.
-    pub fn put_refused(&mut self, refusal: Refusal)
+    // `refused N`, and a newline. By the number, as it was from the first: a `Refusal` would take fewer.
+    pub fn put_refused(&mut self, n: u32)
         requires { 29 ≤ room self.old }
-        ensures { Put self.old self.new 29 (refused_line (number refusal)) }
+        ensures { Put self.old self.new 29 (refused_line n) }
     {
-        self.put_number(b"refused ", u64::from(u32::from(refusal)));
+        self.put_number(b"refused ", u64::from(n));
         self.put_text(b"\n");
     }
 

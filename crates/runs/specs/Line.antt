@@ -1,5 +1,5 @@
 -- The line that is printed.
-use Rattle.std.specs.Prelude.{◌≡◌, ℕ}
+use Rattle.std.specs.Prelude.{◌≡◌, refl, ℕ}
 use Rattle.std.proofs.Common.{ap, ◌∙◌}
 use mathlib.Core.List.{List, [], ◌++◌, flatten, append_assoc, append-nil}
 use Rattle.model.specs.Lists.{ascii}

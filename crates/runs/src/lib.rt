@@ -80,6 +80,6 @@ pub fn put_line(line: &mut Line<'_>, a: Result<IncrementalOutput, Refusal>)
 {
     match a {
         Ok(a) => put_accepted(line, a),
-        Err(refusal) => line.put_refused(refusal),
+        Err(refusal) => line.put_refused(u32::from(refusal)),
     }
 }

@@ -148,7 +148,7 @@ pub trait Spliced {
 }
 
 // Whether the record at a place is in a part.
-fn is_in<K: Spliced>(tape: &[u8], at: usize, w: Window, part: Part) -> bool
+pub fn is_in<K: Spliced>(tape: &[u8], at: usize, w: Window, part: Part) -> bool
     requires { at + K.SIZE ≤ length tape.now }
     ensures { result ≡ is_in K.located (window_value w) part (record_at K.codec tape.now at) }
 {

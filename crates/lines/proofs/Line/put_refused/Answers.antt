@@ -4,4 +4,4 @@ use Rattle.lines.proofs.Line.put_refused.Goals as goal
 
 pub returns : goal.returns
 unfolding refused_line
-returns c = rw (← c.from.ensures, ← c.from-2.ensures) (put_both c.put_number.ensures c.put_text.ensures)
+returns c = rw (← c.from.ensures) (put_both c.put_number.ensures c.put_text.ensures)
