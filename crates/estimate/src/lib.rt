@@ -15,6 +15,7 @@ ghost use Rattle.estimate.specs.Pricing.{over_price, price_by, price_value, esti
 use books::{Correction, Merging, Stored};
 use refusal::Refusal;
 
+// Number 3's limit, here of a price; those of `texts` and `layer` are private to them.
 const MAX_POOL: u32 = 1048575;
 
 const OVER: u32 = 1048576;
@@ -34,15 +35,15 @@ fn over(reread: u32, bytes: usize) -> Price
     ensures { result ≡ over_price reread bytes }
 {
     Price {
-        reread: reread,
+        reread,
         calls: OVER,
         contents: OVER,
         segments: OVER,
-        bytes: bytes,
+        bytes,
     }
 }
 
-// Wish 2. If one of the three is above 1048575, all three are given as 1048576. There are no sizes where contents or segments are.
+// Wish 2. If one of the three is above 1048575, all three are given as 1048576. There are no sizes where contents or segments pass it.
 fn price_by(reread: u32, s: Option<sizes::Sizes>, bytes: usize) -> Price
     ensures { result ≡ price_by reread s bytes }
 {
@@ -53,11 +54,11 @@ fn price_by(reread: u32, s: Option<sizes::Sizes>, bytes: usize) -> Price
         return over(reread, bytes);
     }
     Price {
-        reread: reread,
+        reread,
         calls: s.calls,
         contents: s.contents,
         segments: s.segments,
-        bytes: bytes,
+        bytes,
     }
 }
 

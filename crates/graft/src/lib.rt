@@ -37,7 +37,7 @@ pub use source::Walk;
 // The tag of a content that is a run of segments. `Source` says what such a content's numbers are, and nothing of its tag.
 const SEGMENTS: u8 = 1;
 
-// The body of a segment that no level of the walk reaches.
+// The body of a segment that no level of the walk reaches. No `Default` of bodies: elsewhere a body of kind 0 is a text.
 const NO_BODY: Body = Body {
     kind: 0,
     tag: 0,

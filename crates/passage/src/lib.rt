@@ -10,7 +10,8 @@ ghost use Rattle.passage.specs.Window.{ends_on_boundaries};
 ghost use Rattle.passage.specs.Layers.{missing_of};
 
 // Number 12. The reading's text is the passage with the edit made in it; `start` and `end` are offsets of the passage:
-// no span of a book has them, its caller makes them by subtraction.
+// no span of a book has them, its caller makes them by subtraction. By lengths, as the definition has it: `strip_prefix` and `strip_suffix` would say
+// it through two `Option`s.
 pub fn is_region_text(
     passage: &[u8],
     start: usize,
