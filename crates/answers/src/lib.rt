@@ -123,6 +123,8 @@ pub fn number_answer(a: Result<(), Refusal>) -> u32
     }
 }
 
+// Each answer names all of its fields, as C's struct has them: by `Default` a field that is forgotten would be 0 and not be missed.
+
 impl From<Result<bool, Refusal>> for AllowedAnswer {
     ghost from_gives = { λ a r. r ≡ allowed_answer (checked a) };
 

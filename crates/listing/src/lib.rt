@@ -121,7 +121,7 @@ impl<'a> Book<'a> {
         wire::u32_or_zero(self.tape, at + usize::from(k)) as usize
     }
 
-    // The region, or an empty one where there is none.
+    // The region, or an empty one where there is none. (Neither a `Span` nor a `Cursor` has a `Default`: that zeros mean none is said here alone.)
     fn region(&self) -> Span
         ensures { span_of result ≡ region_of (mark_of self.now.region) }
     {

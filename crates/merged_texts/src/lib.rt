@@ -27,6 +27,7 @@ pub fn put_head(out: &mut [u8], tape: &[u8], nodes_at: usize, text: u32, normali
     requires { (9 ≤ nodes_at) × (nodes_at ≤ length tape.now) × (nodes_at ≤ length out.old) }
     ensures { out.new ≡ overwrite out.old 0 (head_bytes text normalized ++ part tape.now 9 (nodes_at - 9)) }
 {
+    // command 1, written nowhere else
     wire::put_u8(out, 0, 1);
     wire::put_u32(out, 1, text);
     wire::put_u32(out, 5, normalized);

@@ -39,7 +39,7 @@ pub fn is_region_text(
     compare::same(&reading[there..reading.len()], &passage[end..passage.len()])
 }
 
-// Number 16. No cut falls inside a normalized character.
+// Number 16. No cut falls inside a normalized character. By two numbers, each of which is tested by itself.
 #[tactic(auto, using(std::proofs::lemmas::Bool::Decides::nat_tests), unfolding(crate::specs::Window::ends_on_boundaries))]
 pub fn cuts_ok(normalized: &[u8], start: usize, end: usize) -> bool
     ensures { result ≡ ends_on_boundaries normalized.now start end }

@@ -113,6 +113,7 @@ fn put_container(out: &mut [u8], at: usize, p: records::ContainerPair)
     requires { at + 13 ≤ length out.old }
     ensures { out.new ≡ overwrite out.old at (record_bytes container_codec (container_pair_of p)) }
 {
+    // command 8, written nowhere else
     wire::put_u8(out, at, 8);
     wire::put_u32(out, at + 1, p.plain);
     wire::put_u32(out, at + 5, p.opening);
