@@ -17,7 +17,7 @@ fn put_text(rt: &impl Print, s: &[u8]) -> io::Result<()> {
     Ok(())
 }
 
-// The text stands first in the byte buffer. By two numbers, as `region_text`, which C calls too.
+// The text stands first in the byte buffer. By two numbers, as `region_text` takes them.
 fn put_region(rt: &impl Print, bytes: &[u8], start: u32, end: u32) -> io::Result<()> {
     print!(rt; "region {start} {end} \"")?;
     put_text(rt, region::region_text(bytes, start, end))?;
