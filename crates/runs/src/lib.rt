@@ -18,7 +18,7 @@ pub const HEAD: usize = 28;
 // 'Runs' limits its parts by itself: no crate below has this number
 const MAX_PART: u32 = 65536;
 
-// Number 3. The lengths of the five parts.
+// Number 3. The lengths of the five parts, each by its name: those of an array would be told apart by their order alone.
 #[tactic(auto, using(std::proofs::lemmas::Bool::Decides::nat_tests), unfolding(crate::specs::Input::parts_fit))]
 fn parts_fit(oldtape: u32, oldbytes: u32, replacement: u32, newtape: u32, newbytes: u32) -> bool
     ensures { result ≡ parts_fit (oldtape ∷ oldbytes ∷ replacement ∷ newtape ∷ newbytes ∷ []) }
