@@ -172,14 +172,14 @@ fn any_refers_among(nodes: &Nodes, n: usize, filter: &mut [u32], from: u32) -> O
     Some(false)
 }
 
-// The place that is noted for what node i names. Whoever asks looks whether it is so.
+// The place noted for what node i names: a hint, which the caller tests before it relies on it.
 pub fn noted_place(nodes: &Nodes, i: usize, places: &[u64]) -> Option<usize>
     requires { i < nodes.now.run.count }
 {
     id_places::find(places, nodes.named(i)?)
 }
 
-// From how many bytes on a string is so long that it is not to be compared twice: fewer than 4096 of the book's strings are.
+// A string of more bytes than this is not to be compared twice: fewer than 4096 of the book's strings are so long.
 pub fn long_from(strings: &Strings) -> usize {
     LONG_STRING.max((strings.old.len() + strings.new.len()) / 4096)
 }
@@ -196,7 +196,7 @@ pub fn note_place(nodes: &Nodes, i: usize, long: usize, places: &mut [u64], m: u
     }
 }
 
-// The first node that passes a test, of those among the first n that name one long string.
+// For each long string, the first node of the first n that names it and passes a test, noted in `places`: how many are noted.
 pub fn first_places<F: Fn(usize) -> bool>(
     nodes: &Nodes,
     n: usize,
