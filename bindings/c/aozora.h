@@ -1,7 +1,7 @@
 /* The entries of crate `exports`, for C and C++: a corrected passage is merged into the cached parse of a book in Aozora notation.
 
    Each entry is proved to meet the contract that stands above it in crates/exports/src/lib.rt, on every input: whatever bytes and numbers it is
-   given, it answers, and with what document 01 says. What C's types cannot say is left to the caller, and is all that is asked of it:
+   given, it answers, and with what documents 01 and 02 say. What C's types cannot say is left to the caller, and is all that is asked of it:
 
    - a slice goes as a pointer and a length; the pointer is not null, also where the length is 0, and valid for so many items;
    - what is written overlaps with nothing else that is passed.
@@ -21,16 +21,19 @@
 extern "C" {
 #endif
 
-/* How many work words aozora_merge and aozora_merge_both_orders are lent at least. With two words for each node of a book of more than
-   30,000, numbers 10 and 15 are faster. */
+/* How many work words aozora_merge, aozora_merge_for_desk and aozora_merge_both_orders are lent at least. With two words for each node of a
+   book of more than 30,000, numbers 10 and 15 are faster. */
 #define AOZORA_WORK_WORDS 16384
+/* how many desks there can be (their numbers are 0 to 63), and so how many totals a ledger has */
+#define AOZORA_DESKS 64
 /* what aozora_estimate tells where one of its three counts is above 1048575: over */
 #define AOZORA_OVER 1048576
 /* a string id that is missing */
 #define AOZORA_NO_STRING 0xFFFFFFFFu
 
 /* Why a call was refused: the table "Returned numbers" of document 01. Tested in this order: the old book, 1 to 7; the edit, 8; the replacement, 2;
-   the new text, 3; then 9, 10, 11; the reading, 1 to 7; then 12 to 18. */
+   the new text, 3; then 9, 10, 11; the reading, 1 to 7; then 12 to 18. Only aozora_merge_for_desk has 19, before all of these, and 20, behind
+   them (document 02, wish 4). */
 enum aozora_refusal {
     AOZORA_ACCEPTED = 0,
     AOZORA_LAYOUT = 1,                      /* tape or byte buffer breaks the layout; a book without a layer; a reading without exactly one */
@@ -50,7 +53,9 @@ enum aozora_refusal {
     AOZORA_NEW_RUBY_FORMAT_DEPENDENCY = 15, /* introduces_ruby_format_dependency */
     AOZORA_CUT_IN_CHARACTER = 16,           /* a cut falls inside a normalized character */
     AOZORA_LAYERS_FULL = 17,                /* reading has nodes, old book 32 layers */
-    AOZORA_NO_ROOM = 18                     /* result passes a limit of 3 or has over 3583 new strings, a buffer is too short, under 16384 work words */
+    AOZORA_NO_ROOM = 18,                    /* result passes a limit of 3 or has over 3583 new strings, a buffer is too short, under 16384 work words */
+    AOZORA_DESK_OR_LEDGER = 19,             /* desk above 63, or a ledger without exactly 64 totals */
+    AOZORA_TOTAL_FULL = 20                  /* the desk's total would pass 4294967295 */
 };
 
 /* What a number means, and what to look at: for people, not proved. Never null. */
@@ -75,7 +80,9 @@ static inline const char *aozora_refusal_message(uint32_t number) {
     case AOZORA_CUT_IN_CHARACTER: return "the passage begins or ends inside a character of the normalized text: the normalized text is not the images of the nodes";
     case AOZORA_LAYERS_FULL: return "the book has 32 layers already and the reading would add one: parse the whole text, which gives a book of one layer";
     case AOZORA_NO_ROOM: return "the result does not fit: a result buffer is too short, fewer than 16384 work words are lent, the merged book passes a limit, or its new layer has more than 3583 strings";
-    default: return "not a number of document 01";
+    case AOZORA_DESK_OR_LEDGER: return "there is no such desk, or the ledger has another length: desks are 0 to 63, and a ledger has exactly 64 totals";
+    case AOZORA_TOTAL_FULL: return "the desk's total would pass 4294967295: write the invoice and begin a new ledger";
+    default: return "not the number of a refusal";
     }
 }
 
@@ -150,6 +157,19 @@ aozora_merge_answer aozora_merge(const uint8_t *tape, size_t tape_len, const uin
                                  const uint8_t *replacement, size_t replacement_len, const uint8_t *reading_tape, size_t reading_tape_len,
                                  const uint8_t *reading_bytes, size_t reading_bytes_len, uint8_t *out_tape, size_t out_tape_len,
                                  uint8_t *out_bytes, size_t out_bytes_len, uint32_t *work, size_t work_len);
+
+/* aozora_merge for a desk: where it is accepted, the desk's total in the ledger has grown by `reread`, and all others stay. The ledger is
+   AOZORA_DESKS totals, zeros at first; it is yours, and kept over night like any other numbers (docs/FORMAT.md). Only one call at a time may
+   have it, also for different desks: all its totals are read before the merge and written behind it. 19 comes before all else: the desk is
+   above 63, or the ledger has another length. Then aozora_merge's 1 to 18; then 20: the total would pass 4294967295, which a reading without
+   nodes never meets. After any refusal the ledger is as it was, and the result buffers and the words are zeros. After 20 the correction is not
+   made: write the invoice, set all totals to 0, and call again. So whichever calls are made on a ledger of zeros, each total is the sum of its
+   own accepted `reread`, and all together, which may pass 32 bits, are the sum of all (ran_totals in crates/desk/proofs/Ran.antt). */
+aozora_merge_answer aozora_merge_for_desk(uint32_t desk, uint32_t *ledger, size_t ledger_len,
+                                          const uint8_t *tape, size_t tape_len, const uint8_t *bytes, size_t bytes_len, uint32_t start, uint32_t end,
+                                          const uint8_t *replacement, size_t replacement_len, const uint8_t *reading_tape, size_t reading_tape_len,
+                                          const uint8_t *reading_bytes, size_t reading_bytes_len, uint8_t *out_tape, size_t out_tape_len,
+                                          uint8_t *out_bytes, size_t out_bytes_len, uint32_t *work, size_t work_len);
 
 /* The earlier-lying correction, 1, and the later-lying, 2, in both orders: 1 into buffers 1, then 2, moved by the change in length, into
    buffers 2; 2 into buffers 3, then 1 into buffers 4. All four merges are made, whatever they answer; behind a refused one the book is empty,

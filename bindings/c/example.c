@@ -1,4 +1,4 @@
-/* Document 01's P5 priced and merged, a damaged tape refused, two corrections in both orders, and what else can be asked of a book. From the repository's root:
+/* Document 01's P5 priced and merged, also for a desk, a damaged tape refused, two corrections in both orders, and what else can be asked of a book. From the repository's root:
      (cd crates/exports && rt lib) && cc -I bindings/c bindings/c/example.c -L crates/exports/out -lexports -o /tmp/example && /tmp/example
    It prints bindings/c/example.txt. */
 #include <stdio.h>
@@ -86,6 +86,19 @@ static void why_refused(void) {
     printf("bytes of the lent buffers that are not zero then: %zu\n", rest);
 }
 
+static aozora_merge_answer p5_for(uint32_t desk, uint32_t *ledger, size_t ledger_len) {
+    uint8_t out_tape[256], out_bytes[256];
+    return aozora_merge_for_desk(desk, ledger, ledger_len, SLICE(tape), STR(BYTES), 4, 5, STR("x"), SLICE(reading_tape), STR(READING_BYTES),
+                                 SLICE(out_tape), SLICE(out_bytes), WORDS(work));
+}
+
+static void for_a_desk(void) {
+    uint32_t ledger[AOZORA_DESKS] = { 0 };
+    line("P5 for desk 7", p5_for(7, WORDS(ledger)));
+    line("for desk 64", p5_for(64, WORDS(ledger)));
+    for (unsigned desk = 0; desk < AOZORA_DESKS; desk++) if (ledger[desk]) printf("the invoice: desk %u reread %u\n", desk, (unsigned)ledger[desk]);
+}
+
 static void both_orders(void) {
     uint8_t t1[256], b1[256], t2[256], b2[256], t3[256], b3[256], t4[256], b4[256];
     aozora_orders_answer o = aozora_merge_both_orders(SLICE(tape), STR(BYTES),
@@ -116,6 +129,7 @@ static void lookups(void) {
 int main(void) {
     merge_p5();
     why_refused();
+    for_a_desk();
     both_orders();
     lookups();
     return EXIT_SUCCESS;

@@ -1,5 +1,6 @@
 //! The entries with memory of their own.
 
+use crate::ledger::Ledger;
 use crate::raw;
 use crate::record::Record;
 use crate::records::Records;
@@ -193,6 +194,9 @@ pub fn estimate<'a, 'b>(
     raw::estimate(book, edit, reading.into(), &mut work)
 }
 
+/// Result buffers of any length.
+const NO_LIMIT: Lengths = Lengths { tape: usize::MAX, bytes: usize::MAX };
+
 /// Merges the reading of an edit's region into a book: the corrected book, in memory of its own.
 ///
 /// The result buffers grow to what the result needs: number 18 is left for a book that passes a
@@ -208,7 +212,7 @@ pub fn merge<'a, 'b>(
     edit: Edit<'_>,
     reading: impl Into<Stored<'b>>,
 ) -> Result<Merged, Refusal> {
-    merge_within(book, edit, reading, Lengths { tape: usize::MAX, bytes: usize::MAX })
+    merge_within(book, edit, reading, NO_LIMIT)
 }
 
 /// As [`merge`], with result buffers of at most so many bytes: a longer result is refused with 18.
@@ -223,15 +227,75 @@ pub fn merge_within<'a, 'b>(
     limit: Lengths,
 ) -> Result<Merged, Refusal> {
     let (book, reading) = (book.into(), reading.into());
+    with_room(book, edit, reading, limit, |room, work| raw::merge(book, edit, reading, room, work))
+}
+
+/// As [`merge`], for a desk, 0 to 63: where it is accepted, the desk's total in the ledger has
+/// grown by [`reread`](Merged::reread), and all others stay; a refused merge adds to none (wish 4
+/// of document 02).
+///
+/// For every list of such merges from a [new](Ledger::new) ledger, each total is the sum of its own
+/// accepted rereads, and all together are the sum of all: `ran_totals` in
+/// crates/desk/proofs/Ran.antt.
+///
+/// [`raw::merge_for_desk`] takes your buffers, which bounds the memory as [`merge_within`] does.
+///
+/// ```
+/// use aozora_incremental::{BookBuilder, Edit, Ledger, Node, NodeRef, Refusal, merge_for_desk};
+///
+/// let old = BookBuilder::new().text("aa\n\nbb\n\ncc").build()?;
+/// let mut reading = BookBuilder::new();
+/// let (base, read) = (reading.plain("x"), reading.plain("b"));
+/// reading.node("xb", NodeRef::Inline(Node::Ruby { base, reading: read })).text("\n\n");
+/// let reading = reading.build_reading()?;
+/// let edit = Edit::new(4, 5, "x");
+///
+/// let mut ledger = Ledger::new();
+/// let merged = merge_for_desk(&mut ledger, 7, &old, edit, &reading)?;
+/// assert_eq!(ledger.total(7), Some(merged.reread));
+/// let refused = merge_for_desk(&mut ledger, 64, &old, edit, &reading);
+/// assert_eq!(refused, Err(Refusal::DeskOrLedger));
+/// assert_eq!(ledger.to_string(), "desk  7 reread 1\nsum     reread 1");
+/// # Ok::<(), Refusal>(())
+/// ```
+///
+/// # Errors
+///
+/// 19 where the desk is above 63, before all else; a number 1 to 18, as [`merge`]; then 20, where
+/// the desk's total would pass 4294967295: the correction is not made, so print the ledger, begin a
+/// new one, and call again. A reading without nodes never meets 20.
+pub fn merge_for_desk<'a, 'b>(
+    ledger: &mut Ledger,
+    desk: u32,
+    book: impl Into<Stored<'a>>,
+    edit: Edit<'_>,
+    reading: impl Into<Stored<'b>>,
+) -> Result<Merged, Refusal> {
+    let (book, reading) = (book.into(), reading.into());
+    with_room(book, edit, reading, NO_LIMIT, |room, work| {
+        raw::merge_for_desk(desk, &mut ledger.totals, book, edit, reading, room, work)
+    })
+}
+
+/// Calls a merge with the room that most need, and after an 18, which charges no desk, with what is
+/// certainly enough.
+fn with_room(
+    book: Stored<'_>,
+    edit: Edit<'_>,
+    reading: Stored<'_>,
+    limit: Lengths,
+    mut call: impl FnMut(Room<'_>, &mut [u32]) -> Result<Merged<Lengths>, Refusal>,
+) -> Result<Merged, Refusal> {
     let mut work = zeros(work_words(book))?;
-    let room = smaller(limit, room::first(lengths(book), edit, reading));
-    match merge_into(book, edit, reading, room, &mut work) {
-        // 18 comes last, so both tapes are accepted. A reading may name an item many times, and
-        // each time is stored.
-        Err(Refusal::NoRoom) => {
-            let enough = room::enough(book, edit, reading).ok_or(Refusal::NoRoom)?;
-            merge_into(book, edit, reading, smaller(limit, enough), &mut work)
-        }
+    let mut into = |room| {
+        let mut out = buffers(smaller(limit, room))?;
+        let answer = call(lent(&mut out), &mut work)?;
+        Ok(cut(out, answer))
+    };
+    match into(room::first(lengths(book), edit, reading)) {
+        // 18 comes behind 1 to 17, so both tapes are accepted. A reading may name an item many
+        // times, and each time is stored.
+        Err(Refusal::NoRoom) => into(room::enough(book, edit, reading).ok_or(Refusal::NoRoom)?),
         answer => answer,
     }
 }
@@ -240,18 +304,6 @@ pub fn merge_within<'a, 'b>(
 /// for each, whose record has 49 bytes.
 fn work_words(book: Stored<'_>) -> usize {
     WORK_WORDS.max(book.tape.len() / 24)
-}
-
-fn merge_into(
-    book: Stored<'_>,
-    edit: Edit<'_>,
-    reading: Stored<'_>,
-    room: Lengths,
-    work: &mut [u32],
-) -> Result<Merged, Refusal> {
-    let mut out = buffers(room)?;
-    let answer = raw::merge(book, edit, reading, lent(&mut out), work)?;
-    Ok(cut(out, answer))
 }
 
 /// Merges two corrections in both orders: four books. The one called earlier lies before the other.

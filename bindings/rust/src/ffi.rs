@@ -195,6 +195,29 @@ unsafe extern "C" {
         work: *mut u32,
         work_len: usize,
     ) -> MergeAnswer;
+    fn aozora_merge_for_desk(
+        desk: u32,
+        ledger: *mut u32,
+        ledger_len: usize,
+        tape: *const u8,
+        tape_len: usize,
+        bytes: *const u8,
+        bytes_len: usize,
+        start: u32,
+        end: u32,
+        replacement: *const u8,
+        replacement_len: usize,
+        reading_tape: *const u8,
+        reading_tape_len: usize,
+        reading_bytes: *const u8,
+        reading_bytes_len: usize,
+        out_tape: *mut u8,
+        out_tape_len: usize,
+        out_bytes: *mut u8,
+        out_bytes_len: usize,
+        work: *mut u32,
+        work_len: usize,
+    ) -> MergeAnswer;
     fn aozora_merge_both_orders(
         tape: *const u8,
         tape_len: usize,
@@ -409,6 +432,44 @@ pub(crate) fn merge(
     // three that are written are borrowed `&mut`, so they overlap with nothing that is passed.
     unsafe {
         aozora_merge(
+            book.tape.as_ptr(),
+            book.tape.len(),
+            book.bytes.as_ptr(),
+            book.bytes.len(),
+            edit.start,
+            edit.end,
+            edit.replacement.as_ptr(),
+            edit.replacement.len(),
+            reading.tape.as_ptr(),
+            reading.tape.len(),
+            reading.bytes.as_ptr(),
+            reading.bytes.len(),
+            room.tape.as_mut_ptr(),
+            room.tape.len(),
+            room.bytes.as_mut_ptr(),
+            room.bytes.len(),
+            work.as_mut_ptr(),
+            work.len(),
+        )
+    }
+}
+
+pub(crate) fn merge_for_desk(
+    desk: u32,
+    ledger: &mut [u32],
+    book: Stored<'_>,
+    edit: Edit<'_>,
+    reading: Stored<'_>,
+    room: Room<'_>,
+    work: &mut [u32],
+) -> MergeAnswer {
+    // SAFETY: all pointers are those of borrowed slices: not null, valid for their lengths; the
+    // four that are written are borrowed `&mut`, so they overlap with nothing else that is passed.
+    unsafe {
+        aozora_merge_for_desk(
+            desk,
+            ledger.as_mut_ptr(),
+            ledger.len(),
             book.tape.as_ptr(),
             book.tape.len(),
             book.bytes.as_ptr(),

@@ -3,7 +3,8 @@
 //! A *book* is a cached parse, a *reading* is a parser's output for one passage. Whoever corrects a
 //! book asks [`choose_region`] which passage has to be read again, parses that passage, and gives
 //! the reading to [`merge`]. The corrected book is what comes out; how many nodes were reread is on
-//! the answer. [`estimate`] tells the price of a merge before it is made.
+//! the answer. [`estimate`] tells the price of a merge before it is made. A house with many desks
+//! has its invoice split: [`merge_for_desk`] charges the desk in a [`Ledger`].
 //!
 //! This is P5 of document 01, "aa⏎⏎bb⏎⏎cc" with one letter of the middle passage corrected:
 //!
@@ -27,13 +28,13 @@
 //!
 //! # What is promised
 //!
-//! The twelve entries of [`raw`] are those of a static library that was proved, for every input, to
-//! do what document 01 says:
+//! The thirteen entries of [`raw`] are those of a static library that was proved, for every input,
+//! to do what documents 01 and 02 say:
 //!
 //! 1. **An answer, always.** Any bytes and numbers give a result or one [`Refusal`], under its
-//!    stated condition. After a refusal every lent buffer is zeros.
-//! 2. **The right answer.** Results equal the definitions of document 01: region, nodes kept and
-//!    reread, counts, and every byte of the merged book.
+//!    stated condition. After a refusal every lent buffer is zeros, and a ledger is as it was.
+//! 2. **The right answer.** Results equal the definitions of both documents: region, nodes kept and
+//!    reread, counts, every byte of the merged book, and every total of a ledger.
 //! 3. **Either way round.** Two corrections of separate passages may come in either order: the same
 //!    passages are reread, the final books are equal with strings in place of ids, the sums of
 //!    reread nodes are equal, and every reference given out for the first book still shows what it
@@ -41,6 +42,9 @@
 //!    [docs/PROMISE.md](../../../../docs/PROMISE.md) says on one page what is claimed and what not.
 //! 4. **A ceiling on probing.** The probes that a merge returns are at most its calls of the
 //!    interner × the number of distinct strings of at most 64 bytes among them: [`InternStats`].
+//! 5. **An invoice by desk.** For every list of merges for desks from a new [`Ledger`], each total is
+//!    the sum of the rereads of its own accepted merges, and all totals together are the rereads of
+//!    the list: [`merge_for_desk`].
 //!
 //! Not promised: that the reading is what a parser of the whole text would give (the parser is not
 //! here); anything of time; the compiler's back end, the machine and the C library.
@@ -49,8 +53,10 @@
 //!
 //! - the declarations of the entries, one private module with the crate's only `unsafe` code; a
 //!   test compares its structs with bindings/c/aozora.h;
-//! - memory: how large the result buffers of [`merge`] and [`merge_both_orders`] have to be, and
-//!   [`Estimate::room`]. Too small a guess would give number 18, never a wrong book;
+//! - memory: how large the result buffers of [`merge`], [`merge_for_desk`] and
+//!   [`merge_both_orders`] have to be, and [`Estimate::room`]. Too small a guess would give number
+//!   18, never a wrong book or a charge;
+//! - [`Ledger`], which adds up the totals and prints them as an invoice;
 //! - [`BookBuilder`] and [`Book`], which write and read tapes. What [`BookBuilder::build`] gives
 //!   was accepted by the proved check, and a [`Book`] is made only of what was accepted; that the
 //!   fields of a record are the right ones rests on tests: every kind is written, read and written
@@ -87,6 +93,7 @@ mod builder;
 mod calls;
 #[allow(unsafe_code, clippy::needless_pass_by_value)]
 mod ffi;
+mod ledger;
 pub mod raw;
 mod record;
 mod records;
@@ -100,9 +107,10 @@ pub use book::{Book, Layer};
 pub use builder::BookBuilder;
 pub use calls::{
     check_book, check_reading, choose_region, copy_book, diagnostics_allow_incremental, estimate,
-    lookup_contents, lookup_segments, lookup_str, merge, merge_both_orders, merge_within,
-    node_at_source,
+    lookup_contents, lookup_segments, lookup_str, merge, merge_both_orders, merge_for_desk,
+    merge_within, node_at_source,
 };
+pub use ledger::{DESKS, Ledger};
 pub use records::Records;
 pub use refusal::{NotARefusal, Refusal};
 pub use stored::{

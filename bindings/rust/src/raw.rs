@@ -177,6 +177,28 @@ pub fn merge(
     merged(&ffi::merge(book, edit, reading, room, work))
 }
 
+/// As [`merge`], for a desk: where it is accepted, the desk's total in the ledger has grown by
+/// [`reread`](Merged::reread), and all others stay. After any refusal the ledger is as it was, and
+/// the result buffers and the words are zeros, also after 20. A reading without nodes never meets
+/// 20.
+///
+/// # Errors
+///
+/// 19 before all else, where the desk is above 63 or the ledger has not exactly
+/// [`DESKS`](crate::DESKS) totals; then a number 1 to 18, as [`merge`]; then 20, where the total
+/// would pass 4294967295.
+pub fn merge_for_desk(
+    desk: u32,
+    ledger: &mut [u32],
+    book: Stored<'_>,
+    edit: Edit<'_>,
+    reading: Stored<'_>,
+    room: Room<'_>,
+    work: &mut [u32],
+) -> Result<Merged<Lengths>, Refusal> {
+    merged(&ffi::merge_for_desk(desk, ledger, book, edit, reading, room, work))
+}
+
 /// Merges two corrections, of which the one called earlier lies before the other, in both orders:
 /// four merges, all of which are made whatever they answer. After a refused first merge its book is
 /// empty, and the second is refused with 1.

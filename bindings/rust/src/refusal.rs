@@ -1,16 +1,17 @@
-//! The returned numbers of document 01.
+//! The returned numbers of documents 01 and 02.
 
 use std::error::Error;
 use std::fmt;
 
 /// Why a call was refused: one variant for each number of the table "Returned numbers" of document
-/// 01.
+/// 01, and for 19 and 20 of document 02, wish 4.
 ///
 /// Every entry is proved to answer a result, or the first of these whose condition holds. The order
 /// is: the old book, 1 to 7; the edit, 8; the replacement, 2; the new text, 3; then 9, 10, 11; the
 /// reading, 1 to 7; then 12 to 18. So a number from 1 to 7 may be about the book or about the
 /// reading; [`check_book`](crate::check_book) and [`check_reading`](crate::check_reading) tell
-/// which.
+/// which. Only [`merge_for_desk`](crate::merge_for_desk) has 19, before all of these, and 20,
+/// behind them.
 #[derive(Debug, Clone, Copy, PartialEq, Eq, PartialOrd, Ord, Hash)]
 #[repr(u32)]
 pub enum Refusal {
@@ -54,11 +55,15 @@ pub enum Refusal {
     /// 18: the result passes a limit of 3, its new layer has more than 3583 strings, a result
     /// buffer is too short, or fewer than [`WORK_WORDS`](crate::WORK_WORDS) work words are lent.
     NoRoom = 18,
+    /// 19: the desk is above 63, or the ledger has not exactly [`DESKS`](crate::DESKS) totals.
+    DeskOrLedger = 19,
+    /// 20: the desk's total would pass 4294967295.
+    TotalFull = 20,
 }
 
 impl Refusal {
     /// All of them, number 1 first.
-    pub const ALL: [Self; 18] = [
+    pub const ALL: [Self; 20] = [
         Self::Layout,
         Self::NotUtf8,
         Self::OverLimit,
@@ -77,9 +82,11 @@ impl Refusal {
         Self::CutInCharacter,
         Self::LayersFull,
         Self::NoRoom,
+        Self::DeskOrLedger,
+        Self::TotalFull,
     ];
 
-    /// The number of document 01, 1 to 18.
+    /// The number of documents 01 and 02, 1 to 20.
     #[must_use]
     pub const fn number(self) -> u32 {
         self as u32
@@ -148,6 +155,12 @@ impl Refusal {
                 "the result does not fit: a result buffer is too short, fewer than 16384 work words are lent, the merged book passes a limit, or \
                  its new layer has more than 3583 strings"
             }
+            Self::DeskOrLedger => {
+                "there is no such desk, or the ledger has another length: desks are 0 to 63, and a ledger has exactly 64 totals"
+            }
+            Self::TotalFull => {
+                "the desk's total would pass 4294967295: write the invoice and begin a new ledger"
+            }
         }
     }
 
@@ -160,7 +173,7 @@ impl Refusal {
     }
 }
 
-/// The contracts of the archive give 0 to 18 only; another number means that another library was
+/// The contracts of the archive give 0 to 20 only; another number means that another library was
 /// linked under its name.
 #[expect(clippy::unreachable, reason = "the contracts of all entries exclude it")]
 fn stranger(number: u32) -> Refusal {
@@ -181,7 +194,7 @@ impl From<Refusal> for u32 {
     }
 }
 
-/// A number that is not one of document 01's 1 to 18.
+/// A number that is not one of 1 to 20.
 #[derive(Debug, Clone, Copy, PartialEq, Eq, Hash)]
 pub struct NotARefusal(
     /// The number.
@@ -190,7 +203,7 @@ pub struct NotARefusal(
 
 impl fmt::Display for NotARefusal {
     fn fmt(&self, f: &mut fmt::Formatter<'_>) -> fmt::Result {
-        write!(f, "{} is not the number of a refusal, 1 to 18", self.0)
+        write!(f, "{} is not the number of a refusal, 1 to 20", self.0)
     }
 }
 

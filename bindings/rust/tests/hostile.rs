@@ -5,7 +5,8 @@ mod common;
 
 use aozora_incremental::*;
 use common::{
-    ABC, Random, lavish, plain, price_agrees, random_book, read_all, rounds, ruby_reading,
+    ABC, Random, desk_agrees, lavish, plain, price_agrees, random_book, read_all, rounds,
+    ruby_reading,
 };
 
 /// A small book with a record of each kind.
@@ -58,11 +59,16 @@ fn ask(stored: Stored<'_>, r: &mut Random) -> Result<(), Refusal> {
                 || region.is_err_and(|e| e.number() > 7)
         ),
     }
-    if let Ok(merged) = merge(stored, edit, &plain("x")) {
-        read_all(&Book::new(&merged.book).unwrap(), r);
-    }
-    if let Ok(merged) = merge(&plain(ABC), Edit::new(4, 5, "x"), stored) {
-        read_all(&Book::new(&merged.book).unwrap(), r);
+    let (old, reading) = (plain(ABC), plain("x"));
+    for (book, edit, reading) in
+        [(stored, edit, reading.as_stored()), (old.as_stored(), Edit::new(4, 5, "x"), stored)]
+    {
+        let (merged, mut ledger) = (merge(book, edit, reading), Ledger::new());
+        assert_eq!(merge_for_desk(&mut ledger, 63, book, edit, reading), merged);
+        assert_eq!(ledger.total(63), Some(merged.as_ref().map_or(0, |merged| merged.reread)));
+        if let Ok(merged) = merged {
+            read_all(&Book::new(&merged.book).unwrap(), r);
+        }
     }
     assert_eq!(read(stored, r), number);
     number
@@ -83,7 +89,7 @@ fn each_byte_changed() {
     let r = &mut Random::new(7);
     for book in [small(), ruby_reading()] {
         assert_eq!(ask(book.as_stored(), r), Ok(()));
-        let (mut accepted, mut refused) = (0, [0; 19]);
+        let (mut accepted, mut refused) = (0, [0; 21]);
         for place in 0..book.tape.len() + book.bytes.len() {
             let mut changed = book.clone();
             for value in 0..=255 {
@@ -174,6 +180,7 @@ fn random_merges() {
         let answer = merge(&old, edit, &reading);
         assert_eq!(answer, lavish(&old, edit, &reading, 1 << 16));
         assert_eq!(answer, price_agrees(old.as_stored(), edit, reading.as_stored()));
+        desk_agrees(old.as_stored(), edit, reading.as_stored(), &answer);
         match answer {
             Ok(merged) => {
                 accepted += 1;
@@ -225,6 +232,41 @@ fn reading_for(old: &StoredBook, edit: Edit<'_>, r: &mut Random) -> StoredBook {
     let mut nodes = pools(&mut reading, r);
     with_nodes(&mut reading, &text, &mut nodes, r);
     reading.build_reading().unwrap()
+}
+
+/// Document 02, wish 4, on random lists of corrections of a book, each on the result of those
+/// before: each total is the sum of its own accepted rereads.
+#[test]
+fn random_ledgers() {
+    let (mut charged, mut refused) = (0, 0);
+    for seed in 0..rounds(300) {
+        let r = &mut Random::new(seed + (4 << 40));
+        let mut b = BookBuilder::new();
+        b.text("あa人\n\nbé\n\nccc\n\n");
+        let (mut book, mut ledger) = (b.build().unwrap(), Ledger::new());
+        let (mut own, mut all) = ([0; DESKS], 0);
+        for _ in 0..r.below(20) {
+            let desk = r.pick(&[0, 17, 62, 63, 64, u32::MAX]);
+            let last = Book::new(&book).unwrap().text().len() as u32;
+            let edit =
+                r.pick(&[Edit::new(0, 3, "人"), Edit::new(0, 3, "あ"), Edit::new(last, last, "a")]);
+            let reading = reading_for(&book, edit, r);
+            match merge_for_desk(&mut ledger, desk, &book, edit, &reading) {
+                Ok(merged) => {
+                    own[desk as usize] += merged.reread;
+                    all += u64::from(merged.reread);
+                    charged += u32::from(merged.reread > 0);
+                    book = merged.book;
+                }
+                Err(refusal) => {
+                    assert_eq!(refusal == Refusal::DeskOrLedger, desk > 63);
+                    refused += 1;
+                }
+            }
+            assert_eq!((ledger.totals(), ledger.sum()), (&own, all));
+        }
+    }
+    assert!(charged > 100 && refused > 100, "{charged} {refused}");
 }
 
 /// Demand 3, on random pairs of corrections of the first and the last of some passages. It is

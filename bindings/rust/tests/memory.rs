@@ -58,6 +58,22 @@ fn long_strings() {
     assert_eq!(merge(&old, edit(), &doubling(12, &long)), Err(Refusal::NoRoom), "4097 strings");
 }
 
+/// For a desk, the merge is made again with more room where the first is too small, and is charged
+/// once.
+#[test]
+fn charged_once() {
+    let (old, reading) = (plain("a\n\nb\n\nc"), doubling(9, "語"));
+    let mut ledger = Ledger::new();
+    let merged = merge_for_desk(&mut ledger, 5, &old, edit(), &reading);
+    assert_eq!(merged, merge(&old, edit(), &reading));
+    assert!(ledger.charged().eq([(5, 1)]));
+    let too_many = merge_for_desk(&mut ledger, 5, &old, edit(), &doubling(20, "語"));
+    assert_eq!((too_many, ledger.total(5)), (Err(Refusal::NoRoom), Some(1)));
+    let mut full = Ledger::from([u32::MAX; DESKS]);
+    let answer = merge_for_desk(&mut full, 5, &old, edit(), &reading);
+    assert_eq!((answer, full), (Err(Refusal::TotalFull), Ledger::from([u32::MAX; DESKS])));
+}
+
 #[test]
 fn both_orders() {
     let old = plain("a\n\nb\n\nc\n\n");

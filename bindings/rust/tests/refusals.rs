@@ -1,15 +1,24 @@
-//! Each number 1 to 18 is reached, and means what document 01 says.
+//! Each number 1 to 20 is reached, and means what documents 01 and 02 say.
 #![allow(missing_docs, clippy::pedantic)]
 
 mod common;
 
 use aozora_incremental::*;
-use common::{ABC, plain, price_agrees, ruby_reading};
+use common::{ABC, desk_agrees, plain, price_agrees, ruby_reading};
 use std::collections::BTreeSet;
 
 /// P5 with another old book, edit or reading.
 fn p5<'a>(old: impl Into<Stored<'a>>, edit: Edit<'_>, reading: impl Into<Stored<'a>>) -> Refusal {
-    price_agrees(old.into(), edit, reading.into()).unwrap_err()
+    let (old, reading) = (old.into(), reading.into());
+    let merged = price_agrees(old, edit, reading);
+    desk_agrees(old, edit, reading, &merged);
+    merged.unwrap_err()
+}
+
+/// P5 for a desk, with this total in each place of the ledger.
+fn p5_for(desk: u32, total: u32) -> Refusal {
+    let mut ledger = Ledger::from([total; DESKS]);
+    merge_for_desk(&mut ledger, desk, &plain(ABC), x(), &ruby_reading()).unwrap_err()
 }
 
 fn x() -> Edit<'static> {
@@ -121,6 +130,8 @@ fn reached() -> Vec<(u32, Refusal)> {
         b.node("xb", inline(Node::AngleQuote { content })).text("\n\n");
     });
     case(18, p5(&old, x(), &strings));
+    case(19, p5_for(64, 0));
+    case(20, p5_for(63, u32::MAX));
     all
 }
 
@@ -149,7 +160,7 @@ fn every_number_is_reached() {
         assert_eq!(refusal.number(), *number, "{refusal}");
     }
     let numbers: BTreeSet<u32> = reached.iter().map(|r| r.0).collect();
-    assert_eq!(numbers, (1..=18).collect());
+    assert_eq!(numbers, (1..=20).collect());
 }
 
 #[test]
@@ -159,11 +170,11 @@ fn numbers_and_messages() {
         assert_eq!(refusal.to_string(), format!("refused {number}: {}", refusal.message()));
         assert!(refusal.message().len() > 40);
     }
-    for number in [0, 19, u32::MAX] {
+    for number in [0, 21, u32::MAX] {
         assert_eq!(Refusal::try_from(number), Err(NotARefusal(number)));
     }
     let messages: BTreeSet<&str> = Refusal::ALL.iter().map(|r| r.message()).collect();
-    assert_eq!(messages.len(), 18);
+    assert_eq!(messages.len(), 20);
 }
 
 /// The C header has the same names, numbers and messages.
@@ -187,6 +198,20 @@ fn the_header_has_the_same_numbers() {
         );
         let message = format!("case AOZORA_{name}: return \"{}\";", refusal.message());
         assert!(header.contains(&message), "{message}");
+    }
+}
+
+/// So has the crate `refusal`, and no others.
+#[test]
+fn the_archive_has_the_same_numbers() {
+    let source = String::from_utf8(common::file("crates/refusal/src/lib.rt")).unwrap();
+    let is_variant = |line: &&str| line.ends_with(',') && line.contains(" = ");
+    let theirs: Vec<&str> = source.lines().map(str::trim).filter(is_variant).collect();
+    assert_eq!(theirs, Refusal::ALL.map(|refusal| format!("{refusal:?} = {},", refusal.number())));
+    let source = source.split_whitespace().collect::<Vec<_>>().join(" ");
+    for refusal in Refusal::ALL {
+        let message = format!("Refusal::{refusal:?} => {{ \"{}\" }}", refusal.message());
+        assert!(source.contains(&message), "{message}");
     }
 }
 

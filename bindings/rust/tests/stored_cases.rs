@@ -5,30 +5,51 @@
 mod common;
 
 use aozora_incremental::*;
-use common::{Parts, cases, file, fx_hash, price_agrees, repository};
+use common::{
+    Lent, Parts, cases, desk_agrees, desk_agrees_within, file, fx_hash, price_agrees, repository,
+};
 use std::fmt::Write;
 
-/// As crates/vectors prints a merge: the program lends buffers full of sevens, as long as the case
-/// says.
+type Answer = Result<Merged<Lengths>, Refusal>;
+
+/// As crates/vectors prints a merge: it lends buffers without a zero, as long as the case says.
 fn vector_line(case: &common::Case<'_>) -> String {
     let mut parts = Parts(case.replacement);
     let [tape, bytes, words, replacement, reading] = [(); 5].map(|()| parts.word() as usize);
     let edit = Edit::new(case.start, case.end, parts.take(replacement));
     let reading = Stored::new(parts.take(reading), parts.0);
-    let (mut tape, mut bytes, mut work) = (vec![7; tape], vec![7; bytes], vec![7; words]);
-    let answer = raw::merge(case.book, edit, reading, Room::new(&mut tape, &mut bytes), &mut work);
-    let Lengths { tape: t, bytes: b } = answer.map(|m| m.book).unwrap_or_default();
-    let shown = match &answer {
-        Ok(m) => {
-            format!("{m}, tape {:016x} bytes {:016x}", fx_hash(&tape[..t]), fx_hash(&bytes[..b]))
-        }
-        Err(refusal) => format!("refused {}", refusal.number()),
-    };
-    let rest = |s: &[u8]| s.iter().filter(|&&b| b != 0).count();
-    let words = work.iter().filter(|&&w| w != 0).count();
-    the_convenient_form_agrees(case.book, edit, reading, &answer, &tape[..t], &bytes[..b]);
+    let room = Lengths { tape, bytes };
+    desk_agrees_within(case.book, edit, reading, room, words);
+    let mut lent = Lent::new(room, words);
+    let answer = lent.merge(case.book, edit, reading);
+    let made = made(&answer, &lent);
+    the_convenient_form_agrees(case.book, edit, reading, &answer, made);
     _ = price_agrees(case.book, edit, reading);
-    format!("{}: {shown}, rest {} {} {words}", case.label, rest(&tape[t..]), rest(&bytes[b..]))
+    let shown = shown(&answer, made, Merged::to_string);
+    format!("{}: {shown}, {}", case.label, rest(&lent, made))
+}
+
+/// The book that a merge made in lent buffers. A refusal's is empty.
+fn made<'a>(answer: &Answer, lent: &'a Lent) -> Stored<'a> {
+    let Lengths { tape, bytes } = answer.map(|m| m.book).unwrap_or_default();
+    Stored::new(&lent.tape[..tape], &lent.bytes[..bytes])
+}
+
+/// What is told of an accepted merge, and the hashes of its book; or the number.
+fn shown(answer: &Answer, made: Stored<'_>, told: impl Fn(&Merged<Lengths>) -> String) -> String {
+    let (tape, bytes) = (fx_hash(made.tape), fx_hash(made.bytes));
+    match answer {
+        Ok(m) => format!("{}, tape {tape:016x} bytes {bytes:016x}", told(m)),
+        Err(refusal) => format!("refused {}", refusal.number()),
+    }
+}
+
+/// How many bytes and words are not zero behind the book.
+fn rest(lent: &Lent, made: Stored<'_>) -> String {
+    let rest = |s: &[u8]| s.iter().filter(|&&b| b != 0).count();
+    let tape = rest(&lent.tape[made.tape.len()..]);
+    let bytes = rest(&lent.bytes[made.bytes.len()..]);
+    format!("rest {tape} {bytes} {}", lent.work.iter().filter(|&&w| w != 0).count())
 }
 
 /// With memory of its own a merge answers the same, or accepts what was refused for want of room.
@@ -36,13 +57,12 @@ fn the_convenient_form_agrees(
     book: Stored<'_>,
     edit: Edit<'_>,
     reading: Stored<'_>,
-    answer: &Result<Merged<Lengths>, Refusal>,
-    tape: &[u8],
-    bytes: &[u8],
+    answer: &Answer,
+    made: Stored<'_>,
 ) {
     match (merge(book, edit, reading), answer) {
         (Ok(ours), Ok(theirs)) => {
-            assert_eq!(ours.book.as_stored(), Stored::new(tape, bytes));
+            assert_eq!(ours.book.as_stored(), made);
             assert_eq!(
                 (ours.region, ours.reused, ours.reread, ours.stats),
                 (theirs.region, theirs.reused, theirs.reread, theirs.stats)
@@ -55,7 +75,7 @@ fn the_convenient_form_agrees(
     }
 }
 
-fn replay(name: &str, line: impl Fn(&common::Case<'_>) -> String) {
+fn replay(name: &str, line: impl FnMut(&common::Case<'_>) -> String) {
     let (input, output) =
         (file(&format!("crates/{name}/stdin")), file(&format!("crates/{name}/stdout")));
     let ours: Vec<String> = cases(&input).iter().map(line).collect();
@@ -67,6 +87,83 @@ fn replay(name: &str, line: impl Fn(&common::Case<'_>) -> String) {
 #[test]
 fn vectors() {
     replay("vectors", vector_line);
+}
+
+/// What a case of crates/desk_run leaves to the next: its ledger, and its book, or the merged one
+/// where it was accepted.
+#[derive(Default)]
+struct Left {
+    ledger: Vec<u32>,
+    book: StoredBook,
+}
+
+impl Left {
+    /// A case brings what it does not keep of the one before: bit 0 is the ledger, bit 1 the book.
+    fn bring(&mut self, kept: usize, ledger: Vec<u32>, book: Stored<'_>) {
+        if kept & 1 == 0 {
+            self.ledger = ledger;
+        }
+        if kept & 2 == 0 {
+            self.book = book.into();
+        }
+    }
+}
+
+/// As crates/desk_run prints a merge for a desk: it lends buffers as crates/vectors does.
+fn desk_line(left: &mut Left, case: &common::Case<'_>) -> String {
+    let mut parts = Parts(case.replacement);
+    let [tape, bytes, words, desk, kept, totals, ledger, replacement, reading] =
+        [(); 9].map(|()| parts.word() as usize);
+    left.bring(kept, ledger_of(parts.take(ledger), totals), case.book);
+    let edit = Edit::new(case.start, case.end, parts.take(replacement));
+    let reading = Stored::new(parts.take(reading), parts.0);
+    let (before, book) = (left.ledger.clone(), left.book.as_stored());
+    let mut lent = Lent::new(Lengths { tape, bytes }, words);
+    let answer = lent.merge_for_desk(desk as u32, &mut left.ledger, book, edit, reading);
+    let made = made(&answer, &lent);
+    if answer.is_ok() {
+        left.book = made.into();
+    }
+    let (shown, ledger) = (shown(&answer, made, without_counts), in_desks(&left.ledger, &before));
+    format!("{}: {shown}, {ledger}, {}", case.label, rest(&lent, made))
+}
+
+/// A ledger of so many totals. Zeros at its end are not written.
+fn ledger_of(written: &[u8], len: usize) -> Vec<u32> {
+    let mut bytes = written.to_vec();
+    bytes.resize(4 * len, 0);
+    let mut parts = Parts(&bytes);
+    (0..len).map(|_| parts.word()).collect()
+}
+
+/// What crates/desk_run tells of a merge: nothing of the interner.
+fn without_counts(m: &Merged<Lengths>) -> String {
+    let Span { start, end } = m.region;
+    format!("region {start} {end} reused {} reread {}", m.reused, m.reread)
+}
+
+/// A ledger as crates/desk_run prints it: which desks have what, zeros left out, and the sum.
+fn in_desks(ledger: &[u32], before: &[u32]) -> String {
+    let as_before = if ledger == before { " as before" } else { "" };
+    let mut out = format!("ledger of {}{as_before}", ledger.len());
+    let mut first = 0;
+    for run in ledger.chunk_by(|a, b| a == b) {
+        let last = first + run.len() - 1;
+        match (run[0], run.len()) {
+            (0, _) => {}
+            (total, 1) => out += &format!(", desk {first} has {total}"),
+            (total, _) => out += &format!(", desks {first} to {last} have {total}"),
+        }
+        first = last + 1;
+    }
+    let sum: u64 = ledger.iter().map(|&total| u64::from(total)).sum();
+    out + &format!(", sum {sum}")
+}
+
+#[test]
+fn desk_run() {
+    let mut left = Left::default();
+    replay("desk_run", |case| desk_line(&mut left, case));
 }
 
 /// As crates/estimate_run prints a price: the program lends words that are all seven.
@@ -86,6 +183,7 @@ fn estimate_run() {
             // tests/memory.rs merges the large ones
             if !price.is_ok_and(|price| price.calls.max(price.contents) > 10_000) {
                 let merged = price_agrees(case.book, edit, reading);
+                desk_agrees(case.book, edit, reading, &merged);
                 *numbers.entry(merged.map_or_else(Refusal::number, |_| 0)).or_insert(0) += 1;
             }
             let shown = price.map_or_else(
@@ -176,7 +274,7 @@ fn program(input: &[u8]) -> String {
     }
 }
 
-fn answer(input: &[u8]) -> Result<Merged<Lengths>, Refusal> {
+fn answer(input: &[u8]) -> Answer {
     if input.len() < 28 {
         return Err(Refusal::Layout);
     }
@@ -196,10 +294,9 @@ fn answer(input: &[u8]) -> Result<Merged<Lengths>, Refusal> {
         Edit::new(start, end, replacement),
         Stored::new(reading_tape, reading_bytes),
     );
-    let (mut tape, mut bytes, mut work) = (vec![7; 65536], vec![7; 65536], vec![7; WORK_WORDS]);
-    let answer = raw::merge(book, edit, reading, Room::new(&mut tape, &mut bytes), &mut work);
-    let Lengths { tape: t, bytes: b } = answer.map(|m| m.book).unwrap_or_default();
-    the_convenient_form_agrees(book, edit, reading, &answer, &tape[..t], &bytes[..b]);
+    let mut lent = Lent::new(Lengths { tape: 65536, bytes: 65536 }, WORK_WORDS);
+    let answer = lent.merge(book, edit, reading);
+    the_convenient_form_agrees(book, edit, reading, &answer, made(&answer, &lent));
     answer
 }
 

@@ -12,6 +12,7 @@ ghost use Rattle.model.specs.Tape.{content_codec, segment_codec};
 ghost use Rattle.model.specs.Lookup.{ask_book, diagnostics_allow_incremental, node_at_source, lookup_contents, lookup_segments, lookup_str, lookup_str_span, contents_ok, segments_ok, copy_into};
 ghost use Rattle.model.specs.Lookup.{copied_tape, copied_bytes};
 ghost use Rattle.model.specs.Demand3.{correction_of};
+ghost use Rattle.model.specs.Desk.{merge_for_desk};
 ghost use Rattle.store.specs.Stored.{store_at};
 ghost use Rattle.store.specs.Standing.{content_place, segment_place};
 ghost use Rattle.bounds.specs.Search.{found_of};
@@ -20,6 +21,7 @@ ghost use Rattle.lookup.specs.Strings.{str_if, str_shown};
 ghost use Rattle.copy.specs.Copying.{copied_of};
 ghost use Rattle.estimate.specs.Pricing.{estimate_of};
 ghost use Rattle.output.specs.Answer.{Merged};
+ghost use Rattle.desk.specs.Charging.{MergedForDesk};
 ghost use Rattle.orders.specs.Orders.{MergedBothOrders};
 ghost use Rattle.answers.specs.Answers.{allowed_answer, node_answer, range_answer, range_read, str_answer, str_read, copy_answer, region_answer, price_answer, merge_answer, output_read, orders_answer, orders_read};
 
@@ -181,6 +183,49 @@ pub extern "C" fn aozora_merge<'a>(
         bytes: reading_bytes,
     };
     let merged = incremental::merge(
+        &book,
+        &Correction { edit, reading },
+        out_tape,
+        out_bytes,
+        work,
+    );
+    answers::MergeAnswer::from(merged)
+}
+
+#[unsafe(no_mangle)]
+pub extern "C" fn aozora_merge_for_desk<'a>(
+    desk: u32,
+    ledger: &mut [u32],
+    tape: &'a [u8],
+    bytes: &'a [u8],
+    start: u32,
+    end: u32,
+    replacement: &'a [u8],
+    reading_tape: &'a [u8],
+    reading_bytes: &'a [u8],
+    out_tape: &mut [u8],
+    out_bytes: &mut [u8],
+    work: &mut [u32],
+) -> answers::MergeAnswer
+    ensures { MergedForDesk
+        (merge_for_desk desk ledger.old (stored_of tape.now bytes.now) (correction_of start end replacement.now reading_tape.now reading_bytes.now)
+        (room_of out_tape.old out_bytes.old work.old))
+        (room_of out_tape.old out_bytes.old work.old) (output_read result) out_tape.new out_bytes.new work.new ledger.old ledger.new
+        × (result ≡ merge_answer (output_read result)) }
+{
+    let book = Stored { tape, bytes };
+    let edit = Edit {
+        start,
+        end,
+        replacement,
+    };
+    let reading = Stored {
+        tape: reading_tape,
+        bytes: reading_bytes,
+    };
+    let merged = desk::merge_for_desk(
+        desk,
+        ledger,
         &book,
         &Correction { edit, reading },
         out_tape,

@@ -1,3 +1,4 @@
 pub mod Ceiling
 pub mod Most
 pub mod Kept
+pub mod Desk

@@ -73,7 +73,7 @@ container_ok_lem size c a b = join (ltb c.opening c.closing) (ltb c.closing size
 
 -- ---- sums
 
-sum_append : (a b : List ℕ) → sum (a ++ b) ≡ sum a + sum b
+pub sum_append : (a b : List ℕ) → sum (a ++ b) ≡ sum a + sum b
 sum_append [] b = sym (zero-add (sum b))
 sum_append (x ∷ a) b = ap (λ (k : ℕ). x + k) (sum_append a b) ∙ sym (add_assoc x (sum a) (sum b))
 

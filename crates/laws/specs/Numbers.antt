@@ -11,6 +11,8 @@ use Rattle.model.specs.WellFormed.{laid_out, well_formed, check_book, check_read
 use Rattle.model.specs.Region.{Edit, chosen_region, choose_region}
 use Rattle.model.specs.Merge.{Stored, Room, IncrementalOutput, fitting, result_checked, merge_books, merge, fitted}
 use Rattle.model.specs.Estimate.{estimate}
+use Rattle.model.specs.Demand3.{Correction, merge_of}
+use Rattle.model.specs.Desk.{merge_for_desk, charged}
 use Rattle.model.specs.Lookup.{copy_book}
 use Rattle.model.specs.Runs.{asked, program}
 
@@ -90,6 +92,18 @@ estimate_numbers s e rs =
     bind_up_to 17 (chosen_region old e) _ (chosen_up_to 17 (omega arith) old e) (λ r.
     bind_up_to 17 (check_reading rs.tape rs.bytes) _ (reading_up_to 17 (omega arith) rs.tape rs.bytes) (λ reading.
     bind_up_to 17 (fitting old e r reading) _ (fitting_up_to 17 (omega arith) old e r reading) (λ w. tt))))) (λ f. tt)
+
+up_to_more : {A : Type 0} (n m : ℕ) (x : Checked A) → n ≤ m → UpTo n x → UpTo m x
+up_to_more n m (refused k) h u = (u.0, omega (arith, u.1))
+up_to_more n m (accepted a) h u = tt
+
+-- A merge for a desk (wish 4) has 19 and 20 too.
+pub merge_for_desk_numbers : (desk : ℕ) (ledger : List ℕ) (s : Stored) (c : Correction) (room : Room) → UpTo 20 (merge_for_desk desk ledger s c room)
+unfolding merge_for_desk charged
+merge_for_desk_numbers desk ledger s c room =
+    line 20 19 _ _ (omega arith) (omega arith) (
+    bind_up_to 20 (merge_of s c room) _ (up_to_more 18 20 (merge_of s c room) (omega arith) (merge_numbers s c.edit c.reading room)) (λ m.
+    line 20 20 _ _ (omega arith) (omega arith) tt))
 
 pub copy_book_numbers : (s : Stored) (room : Room) → UpTo 18 (copy_book s room)
 unfolding copy_book

@@ -18,6 +18,7 @@ pub mod Ceiling
 pub mod Lookup
 pub mod Runs
 pub mod Demand3
+pub mod Desk
 pub mod Computed
 pub mod Examples
 pub mod Traps

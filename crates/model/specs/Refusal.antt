@@ -11,6 +11,8 @@ use Rattle.std.specs.Prelude.{ℕ, Bool, true, false}
 --    7  WellFormed.normalized_length_ok           16  Merge.cuts_ok
 --    8  Region.edit_ok                            17  Merge.fitting
 --    9  Region.edited                             18  Merge.result_ok
+-- and of document 02's:
+--   19  Desk.desk_ok                              20  Desk.charged
 
 -- A value, or the number that refuses it.
 pub data Checked (A : Type 0) : Type 0 where

@@ -1,6 +1,6 @@
 -- The traps of document 01, and the sentences that two readers could take differently (docs/DECISIONS.md): each a theorem by
 -- computation that tells the right answer from the wrong one. For each there is a must-fail edit of its definition.
-use Rattle.std.specs.Prelude.{◌≡◌, refl, ℕ, zero, suc, Bool, true, false, List, [], ◌∷◌, ◌++◌, map, length, replicate}
+use Rattle.std.specs.Prelude.{◌≡◌, refl, ℕ, zero, suc, Bool, true, false, List, [], ◌∷◌, ◌++◌, map, length, set, replicate}
 use Rattle.std.proofs.Math.Option.{Option, none, some}
 use Rattle.model.specs.Lists.{tabulate, ascii}
 use Rattle.model.specs.Limits.{no_string}
@@ -16,6 +16,7 @@ use Rattle.model.specs.Region.{Edit, choose_region}
 use Rattle.model.specs.Merge.{Stored, Room, IncrementalOutput, stored_book, grafted, window_of, merge}
 use Rattle.model.specs.Estimate.{Estimate, is_over, price_of, estimate}
 use Rattle.model.specs.Ceiling.{distinct_short, reading_calls}
+use Rattle.model.specs.Desk.{zero_ledger, merge_for_desk, ledger_after, ledger_behind, charges, rereads, own_rereads, DeskCall, desk_of_call, desk_answer}
 use Rattle.model.specs.Runs.{program, program_room}
 use Rattle.model.specs.Examples.{plain_book, edit, region_in, region, ruby_reading, input}
 use Rattle.model.specs.Computed.{computed}
@@ -392,3 +393,51 @@ pub calls_in_order :
     × (reading_calls (stored_book (two_layers 0 1)) ≡ [])
 unfolding computed
 calls_in_order = (refl, refl, refl)
+
+-- P5's correction of a book, merged for a desk: the number, then the ledger behind it
+abbrev for_desk : ℕ → List ℕ → Stored → RegionOutput → Room → List ℕ
+for_desk desk ledger book reading room =
+    let asked = merge_for_desk desk ledger book (record { edit = edit 4 5; reading = stored_book reading }) room in
+    number_of asked ∷ ledger_after ledger asked
+
+abbrev p5_book : Stored
+p5_book = stored_book (three_with [] [] [])
+
+-- no tape, so number 1
+abbrev no_book : Stored
+no_book = record { tape = []; bytes = [] }
+
+-- Wish 4. Desks are 0 to 63 and a ledger has exactly 64 totals; 19 before the old book's 1.
+pub nineteen_before_one :
+    (for_desk 63 zero_ledger no_book ruby_reading program_room ≡ 1 ∷ zero_ledger)
+    × (for_desk 64 zero_ledger no_book ruby_reading program_room ≡ 19 ∷ zero_ledger)
+    × (for_desk 0 (replicate 63 0) no_book ruby_reading program_room ≡ 19 ∷ replicate 63 0)
+    × (for_desk 0 (replicate 65 0) no_book ruby_reading program_room ≡ 19 ∷ replicate 65 0)
+unfolding computed
+nineteen_before_one = (refl, refl, refl, refl)
+
+-- all totals at 4294967295
+abbrev full_ledger : List ℕ
+full_ledger = replicate 64 4294967295
+
+-- Wish 4. A total may be 4294967295, and all others stay; one more is 20, and then all stay. A reading without nodes adds 0. 18 goes before 20.
+pub full_at_the_limit :
+    (for_desk 63 (set full_ledger 63 4294967294) p5_book ruby_reading program_room ≡ 0 ∷ full_ledger)
+    × (for_desk 63 full_ledger p5_book ruby_reading program_room ≡ 20 ∷ full_ledger)
+    × (for_desk 63 full_ledger p5_book (plain_reading []) program_room ≡ 0 ∷ full_ledger)
+    × (for_desk 63 full_ledger p5_book ruby_reading (record { tape_bytes = 5; text_bytes = 65536; work_words = 16384 }) ≡ 18 ∷ full_ledger)
+unfolding computed
+full_at_the_limit = (refl, refl, refl, refl)
+
+-- a call of P5's correction
+abbrev desk_call : ℕ → Stored → DeskCall
+desk_call desk book = record { desk = desk; book = book; correction = record { edit = edit 4 5; reading = stored_book ruby_reading }; room = program_room }
+
+-- Wish 4. Each desk has its own rereads, and a refused merge adds to none.
+pub invoice_of_two_desks :
+    let calls : List DeskCall = desk_call 3 p5_book ∷ desk_call 0 p5_book ∷ desk_call 3 no_book ∷ desk_call 3 p5_book ∷ [] in
+    let charged_for = charges desk_of_call desk_answer zero_ledger calls in
+    (ledger_behind desk_of_call desk_answer zero_ledger calls ≡ set (set zero_ledger 0 1) 3 2)
+    × (own_rereads 3 charged_for ∷ own_rereads 0 charged_for ∷ own_rereads 1 charged_for ∷ rereads charged_for ∷ [] ≡ 2 ∷ 1 ∷ 0 ∷ 3 ∷ [])
+unfolding computed
+invoice_of_two_desks = (refl, refl)

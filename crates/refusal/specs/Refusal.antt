@@ -1,11 +1,11 @@
--- A refusal as document 01's number, and what a call answers as a value or a number of the model.
+-- A refusal as its number, and what a call answers as a value or a number of the model.
 use Rattle.std.specs.Prelude.{◌≡◌, ℕ, ◌<◌, ◌≤◌, Result, Ok, Err, IsErrAnd}
 use Rattle.std.proofs.Common.{◌∙◌, refl, sym, ap, arith}
 use Rattle.model.specs.Refusal.{Checked, Checked.refused, Checked.accepted, ◌>>=◌, number_of}
 use Rattle.refusal.specs.declared.Refusal.{Refusal}
-use Rattle.refusal.specs.declared.Refusal.TheVariants.{Layout, NotUtf8, OverLimit, IdOrRange, Level, Place, NormalizedLength, Edit, SameText, RubyFormatDependency, WholeText, OtherText, Unbalanced, Unclosed, NewRubyFormatDependency, CutInCharacter, LayersFull, NoRoom}
+use Rattle.refusal.specs.declared.Refusal.TheVariants.{Layout, NotUtf8, OverLimit, IdOrRange, Level, Place, NormalizedLength, Edit, SameText, RubyFormatDependency, WholeText, OtherText, Unbalanced, Unclosed, NewRubyFormatDependency, CutInCharacter, LayersFull, NoRoom, DeskOrLedger, TotalFull}
 
--- Document 01's number of a refusal.
+-- The number of a refusal: document 01's, behind 18 document 02's.
 abbrev pub number : Refusal → ℕ
 number Layout = 1
 number NotUtf8 = 2
@@ -25,6 +25,8 @@ number NewRubyFormatDependency = 15
 number CutInCharacter = 16
 number LayersFull = 17
 number NoRoom = 18
+number DeskOrLedger = 19
+number TotalFull = 20
 
 -- What a call answers, as the model says it: a value, or the number that refuses it.
 abbrev pub checked : {A : Type 0} → Result A Refusal → Checked A
@@ -43,8 +45,8 @@ checked_map f (accepted a) = accepted (f a)
 
 -- ---- laws
 
--- a refusal's number is one of the table, so never 0
-pub number_bounds : (r : Refusal) → (0 < number r) × (number r ≤ 18)
+-- a refusal's number is one of documents 01 and 02, so never 0
+pub number_bounds : (r : Refusal) → (0 < number r) × (number r ≤ 20)
 number_bounds Layout = (omega arith, omega arith)
 number_bounds NotUtf8 = (omega arith, omega arith)
 number_bounds OverLimit = (omega arith, omega arith)
@@ -63,6 +65,8 @@ number_bounds NewRubyFormatDependency = (omega arith, omega arith)
 number_bounds CutInCharacter = (omega arith, omega arith)
 number_bounds LayersFull = (omega arith, omega arith)
 number_bounds NoRoom = (omega arith, omega arith)
+number_bounds DeskOrLedger = (omega arith, omega arith)
+number_bounds TotalFull = (omega arith, omega arith)
 
 module _ {A : Type 0} where
   pub number_of-checked : (x : Result A Refusal) → number_of (checked x) ≡ number_in x

@@ -1,5 +1,6 @@
-// Why a call is refused: document 01's table "Returned numbers". A function that may refuse answers a `Result`, and hands a refusal on by `?`;
-// the number is told at the end, to C and on a printed line. The names and the words are those of bindings/.
+// Why a call is refused: document 01's table "Returned numbers", and document 02's numbers behind it. A function that may refuse answers a
+// `Result`, and hands a refusal on by `?`; the number is told at the end, to C and on a printed line. The names and the words are those of
+// bindings/.
 #![tactic(auto)]
 
 ghost use Rattle.std.specs.Prelude.{◌≡◌};
@@ -46,6 +47,10 @@ pub enum Refusal {
     LayersFull = 17,
     // the result passes a limit of number 3 or has over 3583 new strings, a result buffer is too short, or under 16384 work words are lent
     NoRoom = 18,
+    // a desk above 63, or a ledger without exactly 64 totals (document 02, wish 4)
+    DeskOrLedger = 19,
+    // the desk's total would pass 4294967295 (wish 4)
+    TotalFull = 20,
 }
 
 impl From<Refusal> for u32 {
@@ -113,6 +118,12 @@ impl fmt::Display for Refusal {
             Refusal::NoRoom => {
                 "the result does not fit: a result buffer is too short, fewer than 16384 work words are lent, the merged book passes a limit, or its new layer has more than 3583 strings"
             }
+            Refusal::DeskOrLedger => {
+                "there is no such desk, or the ledger has another length: desks are 0 to 63, and a ledger has exactly 64 totals"
+            }
+            Refusal::TotalFull => {
+                "the desk's total would pass 4294967295: write the invoice and begin a new ledger"
+            }
         })
     }
 }
@@ -124,11 +135,13 @@ mod tests {
     use super::*;
     use std::test::Fail;
 
-    // the first and the last of document 01's table, and the words of one
+    // the first and the last number of each document, and the words of one
     #[test]
     fn told(rt: HostRuntime) -> Result<(), Fail> {
         assert_eq!(rt; u32::from(Refusal::Layout), 1);
         assert_eq!(rt; u32::from(Refusal::NoRoom), 18);
+        assert_eq!(rt; u32::from(Refusal::DeskOrLedger), 19);
+        assert_eq!(rt; u32::from(Refusal::TotalFull), 20);
         assert!(rt; Refusal::Edit == Refusal::Edit);
         assert!(rt; Refusal::Edit != Refusal::SameText);
         let told = format!(in rt.alloc(); "{}", Refusal::SameText)?;

@@ -184,6 +184,109 @@ pub fn price_agrees(
     merged
 }
 
+/// Buffers to lend, full of what is not zero.
+#[derive(Debug, PartialEq)]
+pub struct Lent {
+    pub tape: Vec<u8>,
+    pub bytes: Vec<u8>,
+    pub work: Vec<u32>,
+}
+
+impl Lent {
+    pub fn new(room: Lengths, words: usize) -> Self {
+        let (tape, bytes) = (vec![0xAA; room.tape], vec![0xAA; room.bytes]);
+        Self { tape, bytes, work: vec![0xAAAA_AAAA; words] }
+    }
+
+    pub fn is_zero(&self) -> bool {
+        self.tape.iter().chain(&self.bytes).all(|&b| b == 0) && self.work.iter().all(|&w| w == 0)
+    }
+
+    pub fn merge(
+        &mut self,
+        book: Stored<'_>,
+        edit: Edit<'_>,
+        reading: Stored<'_>,
+    ) -> Result<Merged<Lengths>, Refusal> {
+        let room = Room::new(&mut self.tape, &mut self.bytes);
+        raw::merge(book, edit, reading, room, &mut self.work)
+    }
+
+    pub fn merge_for_desk(
+        &mut self,
+        desk: u32,
+        ledger: &mut [u32],
+        book: Stored<'_>,
+        edit: Edit<'_>,
+        reading: Stored<'_>,
+    ) -> Result<Merged<Lengths>, Refusal> {
+        let room = Room::new(&mut self.tape, &mut self.bytes);
+        raw::merge_for_desk(desk, ledger, book, edit, reading, room, &mut self.work)
+    }
+}
+
+/// The merge for a desk beside the merge, whose answer is given: the same answer, and its rereads
+/// in the desk's total.
+pub fn desk_agrees(
+    book: Stored<'_>,
+    edit: Edit<'_>,
+    reading: Stored<'_>,
+    merged: &Result<Merged, Refusal>,
+) {
+    let mut ledger = Ledger::new();
+    assert_eq!(merge_for_desk(&mut ledger, 63, book, edit, reading), *merged);
+    let mut totals = [0; DESKS];
+    totals[63] = merged.as_ref().map_or(0, |merged| merged.reread);
+    assert_eq!(ledger, Ledger::from(totals));
+    let room = merged.as_ref().map_or(Lengths { tape: 100, bytes: 100 }, |merged| Lengths {
+        tape: merged.book.tape.len(),
+        bytes: merged.book.bytes.len() + 1,
+    });
+    desk_agrees_within(book, edit, reading, room, WORK_WORDS);
+}
+
+/// The same on lent buffers of these lengths, in which both leave the same bytes. At a full total a
+/// merge with rereads is refused with 20; with a wrong desk or ledger it is always refused with 19.
+/// After a refusal the ledger is as it was, and all else is zeros.
+pub fn desk_agrees_within(
+    book: Stored<'_>,
+    edit: Edit<'_>,
+    reading: Stored<'_>,
+    room: Lengths,
+    words: usize,
+) {
+    let mut expected = Lent::new(room, words);
+    let merged = expected.merge(book, edit, reading);
+    let reread = merged.map_or(0, |merged| merged.reread);
+    assert!(merged.is_ok() || expected.is_zero());
+    let ask = |desk: usize, ledger: &mut [u32]| {
+        let mut lent = Lent::new(room, words);
+        let answer = lent.merge_for_desk(desk as u32, ledger, book, edit, reading);
+        (answer, lent)
+    };
+
+    let desk = (book.tape.len() + reading.tape.len() + edit.start as usize) % DESKS;
+    let mut totals: [u32; DESKS] = std::array::from_fn(|i| 1000 * i as u32);
+    let mut ledger = totals;
+    assert_eq!(ask(desk, &mut ledger), (merged, expected));
+    totals[desk] += reread;
+    assert_eq!(ledger, totals);
+
+    totals[desk] = u32::MAX;
+    ledger = totals;
+    let (answer, lent) = ask(desk, &mut ledger);
+    assert_eq!(answer, if reread > 0 { Err(Refusal::TotalFull) } else { merged });
+    assert!(answer.is_ok() || lent.is_zero());
+    assert_eq!(ledger, totals);
+
+    for (desk, len) in [(DESKS, DESKS), (desk, DESKS - 1), (desk, DESKS + 1)] {
+        let mut ledger = vec![5; len];
+        let (answer, lent) = ask(desk, &mut ledger);
+        assert_eq!(answer, Err(Refusal::DeskOrLedger));
+        assert!(lent.is_zero() && ledger == vec![5; len]);
+    }
+}
+
 /// The buffers that bindings/c/aozora.h says are enough.
 fn header_room(price: &Estimate, book: Stored<'_>, reading: Stored<'_>) -> Lengths {
     let (contents, segments) = (price.contents as usize, price.segments as usize);
