@@ -32,8 +32,8 @@ extern "C" {
 #define AOZORA_NO_STRING 0xFFFFFFFFu
 
 /* Why a call was refused: the table "Returned numbers" of document 01. Tested in this order: the old book, 1 to 7; the edit, 8; the replacement, 2;
-   the new text, 3; then 9, 10, 11; the reading, 1 to 7; then 12 to 18. Only aozora_merge_for_desk has 19, before all of these, and 20, behind
-   them (document 02, wish 4). */
+   the new text, 3; then 9, 10, 11; the reading, 1 to 7; then 12 to 18. 6 and 14 are as document 02, wish 5 has them. Only aozora_merge_for_desk
+   has 19, before all of these, and 20, behind them (wish 4). */
 enum aozora_refusal {
     AOZORA_ACCEPTED = 0,
     AOZORA_LAYOUT = 1,                      /* tape or byte buffer breaks the layout; a book without a layer; a reading without exactly one */
@@ -41,7 +41,7 @@ enum aozora_refusal {
     AOZORA_OVER_LIMIT = 3,                  /* text or normalized over 16777215 bytes, a pool over 1048575, another list over 262143, layers over 32 */
     AOZORA_ID_OR_RANGE = 4,                 /* an id or range outside its pool, or across layers */
     AOZORA_LEVEL = 5,                       /* levels of segments */
-    AOZORA_PLACE = 6,                       /* spans, offsets in images, pairs, containers, diagnostics */
+    AOZORA_PLACE = 6,                       /* spans, offsets in images, pairs, containers, diagnostics; of these a diagnostic may have start = end, no other */
     AOZORA_NORMALIZED_LENGTH = 7,           /* normalized length */
     AOZORA_EDIT = 8,                        /* edit start > end, end > length, or inside a character */
     AOZORA_SAME_TEXT = 9,                   /* new text equals old */
@@ -49,7 +49,7 @@ enum aozora_refusal {
     AOZORA_WHOLE_TEXT = 11,                 /* region would be the whole text */
     AOZORA_OTHER_TEXT = 12,                 /* reading's text differs from the new region's */
     AOZORA_UNBALANCED = 13,                 /* balanced_nodes false */
-    AOZORA_UNCLOSED = 14,                   /* reading has a diagnostic of kind 2 or 3 */
+    AOZORA_UNCLOSED = 14,                   /* reading has a diagnostic of kind 2 or 3; or the region is empty, and the old book has a diagnostic of no width at its place */
     AOZORA_NEW_RUBY_FORMAT_DEPENDENCY = 15, /* introduces_ruby_format_dependency */
     AOZORA_CUT_IN_CHARACTER = 16,           /* a cut falls inside a normalized character */
     AOZORA_LAYERS_FULL = 17,                /* reading has nodes, old book 32 layers */
@@ -67,7 +67,7 @@ static inline const char *aozora_refusal_message(uint32_t number) {
     case AOZORA_OVER_LIMIT: return "a limit is passed: a text may have 16777215 bytes, a pool 1048575 items, another list 262143, a book 32 layers";
     case AOZORA_ID_OR_RANGE: return "an id or a range points outside of its pool, or a range runs across two layers: look at the string ids and ranges of contents, segments and nodes";
     case AOZORA_LEVEL: return "a segment has a wrong level: it is 0 but for a Node segment, whose level is 1 to 32 and above all levels in the runs it names";
-    case AOZORA_PLACE: return "something lies at an impossible place: look for empty, overlapping or unordered node spans, for spans past the text, for a normalized offset outside of its node's image, and at pairs, containers and diagnostics";
+    case AOZORA_PLACE: return "something lies at an impossible place: look for empty, overlapping or unordered node spans, for spans past the text, for a normalized offset outside of its node's image, at pairs and containers, and for a diagnostic whose start is behind its end";
     case AOZORA_NORMALIZED_LENGTH: return "the normalized text is not as long as the text and the nodes' images make it: an image has 3 bytes, or 7 with padding";
     case AOZORA_EDIT: return "the edit does not fit the text: its start is behind its end, its end behind the text, or one of them inside a character";
     case AOZORA_SAME_TEXT: return "the edit changes nothing: the replacement is what stands there already";
@@ -75,7 +75,7 @@ static inline const char *aozora_refusal_message(uint32_t number) {
     case AOZORA_WHOLE_TEXT: return "there is no safe cut around the edit, so the passage to reread would be the whole text: parse the whole text";
     case AOZORA_OTHER_TEXT: return "the reading is of another text than the corrected passage: ask for the region again and read that part of the new text";
     case AOZORA_UNBALANCED: return "the reading opens a block or warichu that it does not close, or closes one that it did not open: parse the whole text";
-    case AOZORA_UNCLOSED: return "the reading has a bracket without its partner (UnclosedBracket or UnmatchedClose): parse the whole text";
+    case AOZORA_UNCLOSED: return "the reading has a bracket without its partner (UnclosedBracket or UnmatchedClose): parse the whole text; or text is added at the end of a text that ends in a newline, and the old book has a diagnostic of no width there: let the edit begin at that newline and write it again before the new text, or parse the whole text";
     case AOZORA_NEW_RUBY_FORMAT_DEPENDENCY: return "the reading has a Ruby and a Referenced Format follows the passage, or it has a Referenced Format whose target is the base of an earlier Ruby: parse the whole text";
     case AOZORA_CUT_IN_CHARACTER: return "the passage begins or ends inside a character of the normalized text: the normalized text is not the images of the nodes";
     case AOZORA_LAYERS_FULL: return "the book has 32 layers already and the reading would add one: parse the whole text, which gives a book of one layer";
@@ -152,7 +152,12 @@ aozora_price aozora_estimate(const uint8_t *tape, size_t tape_len, const uint8_t
                              const uint8_t *reading_bytes, size_t reading_bytes_len, uint32_t *work, size_t work_len);
 
 /* A number 1 to 18, or the merged book in the two result buffers. They are written whole, with zeros behind the book or after a refusal; the
-   words, AOZORA_WORK_WORDS at least, come back as zeros. */
+   words, AOZORA_WORK_WORDS at least, come back as zeros.
+   A diagnostic of no width, with start = end, stays where it is if it lies at the region's start or before; if not, it is moved with the text if it
+   lies at the region's end or behind; else it is dropped. So one at an end of the region stays, and a reading that has it too puts a second one
+   there. Text added at the end of a text that ends in a newline has an empty region: with such a diagnostic there it is refused with 14. Let the
+   edit begin at that newline, write the newline again before the new text, and ask for the region anew: the reading is then of the whole last
+   passage, and the diagnostic stays at the text's end. Where that is refused with 11, parse the whole text. */
 aozora_merge_answer aozora_merge(const uint8_t *tape, size_t tape_len, const uint8_t *bytes, size_t bytes_len, uint32_t start, uint32_t end,
                                  const uint8_t *replacement, size_t replacement_len, const uint8_t *reading_tape, size_t reading_tape_len,
                                  const uint8_t *reading_bytes, size_t reading_bytes_len, uint8_t *out_tape, size_t out_tape_len,

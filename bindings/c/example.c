@@ -1,4 +1,5 @@
-/* Document 01's P5 priced and merged, also for a desk, a damaged tape refused, two corrections in both orders, and what else can be asked of a book. From the repository's root:
+/* Document 01's P5 priced and merged, also for a desk, a damaged tape refused, two corrections in both orders, diagnostics of no width, and what else can be asked of a book.
+   From the repository's root:
      (cd crates/exports && rt lib) && cc -I bindings/c bindings/c/example.c -L crates/exports/out -lexports -o /tmp/example && /tmp/example
    It prints bindings/c/example.txt. */
 #include <stdio.h>
@@ -34,6 +35,29 @@ static const uint8_t reading_tape[] = {
 /* The reading of the passage 0..4 with `yyy` in place of the first `a`: no nodes. */
 static const uint8_t first_tape[] = { 1, 6, 0, 0, 0, 6, 0, 0, 0, 2, 10 };
 #define FIRST_BYTES "yyya\n\n" "yyya\n\n"
+
+/* A book "aa\n\nbb\n" with three diagnostics of no width: before its first character, between the two `b`, and at its end. */
+static const uint8_t marked_tape[] = {
+    1, 7, 0, 0, 0, 7, 0, 0, 0,
+    2,
+    9, 4, 0, 0, 0, 0, 0, 0, 0, 0, 0, 0, 0, 0, 0, 0, 0, 0,
+    9, 4, 0, 0, 0, 0, 5, 0, 0, 0, 5, 0, 0, 0, 0, 0, 0, 0,
+    9, 4, 0, 0, 0, 0, 7, 0, 0, 0, 7, 0, 0, 0, 0, 0, 0, 0,
+    10
+};
+#define MARKED_BYTES "aa\n\nbb\n" "aa\n\nbb\n"
+
+/* The reading of the passage 4..7 with `x` between the two `b`, and with a diagnostic of no width behind the `x`. */
+static const uint8_t marked_reading_tape[] = {
+    1, 4, 0, 0, 0, 4, 0, 0, 0,
+    2,
+    9, 4, 0, 0, 0, 0, 2, 0, 0, 0, 2, 0, 0, 0, 0, 0, 0, 0,
+    10
+};
+/* The reading of `cc`, added at the end. */
+static const uint8_t added_tape[] = { 1, 2, 0, 0, 0, 2, 0, 0, 0, 2, 10 };
+/* The reading of the passage 4..7 with `cc` at its end. */
+static const uint8_t longer_tape[] = { 1, 5, 0, 0, 0, 5, 0, 0, 0, 2, 10 };
 
 static uint32_t work[AOZORA_WORK_WORDS];
 
@@ -116,6 +140,32 @@ static void both_orders(void) {
            && memcmp(t2, t4, o.later_second.tape) == 0 && memcmp(b2, b4, o.later_second.bytes) == 0 ? "the same bytes" : "not the same bytes");
 }
 
+/* the diagnostics of a tape without strings, nodes, pairs and containers: they stand behind the head and one layer, 18 bytes each */
+static void diagnostics(const uint8_t *t) {
+    printf("diagnostics:");
+    for (t += 10; *t == 9; t += 18) printf(" %u..%u", (unsigned)t[6], (unsigned)t[10]);   /* all places are below 256 here */
+    printf("\n");
+}
+
+static void of_no_width(void) {
+    uint8_t out_tape[256], out_bytes[256], damaged[sizeof marked_tape];
+    printf("a book with diagnostics of no width: %u; ", (unsigned)aozora_check_book(SLICE(marked_tape), STR(MARKED_BYTES)));
+    diagnostics(marked_tape);
+    line("x between them", aozora_merge(SLICE(marked_tape), STR(MARKED_BYTES), 5, 5, STR("x"), SLICE(marked_reading_tape), STR("bxb\n" "bxb\n"),
+                                        SLICE(out_tape), SLICE(out_bytes), WORDS(work)));
+    diagnostics(out_tape);   /* the first stays, the second is dropped, the reading's is placed, the last moves */
+    line("cc at the end", aozora_merge(SLICE(marked_tape), STR(MARKED_BYTES), 7, 7, STR("cc"), SLICE(added_tape), STR("cc" "cc"),
+                                       SLICE(out_tape), SLICE(out_bytes), WORDS(work)));
+    aozora_merge_answer a = aozora_merge(SLICE(marked_tape), STR(MARKED_BYTES), 6, 7, STR("\ncc"), SLICE(longer_tape), STR("bb\ncc" "bb\ncc"),
+                                         SLICE(out_tape), SLICE(out_bytes), WORDS(work));
+    line("with the last newline in the edit", a);
+    text("the text", out_bytes, 9);
+    diagnostics(out_tape);
+    memcpy(damaged, marked_tape, sizeof damaged);
+    damaged[16] = 1;   /* the first is then 1..0 */
+    printf("a diagnostic that ends before it starts: %u\n", (unsigned)aozora_check_book(SLICE(damaged), STR(MARKED_BYTES)));
+}
+
 static void lookups(void) {
     uint8_t out_tape[64], out_bytes[64];
     aozora_copy c = aozora_copy_book(SLICE(tape), STR(BYTES), SLICE(out_tape), SLICE(out_bytes));
@@ -131,6 +181,7 @@ int main(void) {
     why_refused();
     for_a_desk();
     both_orders();
+    of_no_width();
     lookups();
     return EXIT_SUCCESS;
 }

@@ -60,7 +60,7 @@ pub struct Merged {
     /// calls, cache hits, table hits, allocs, long bypass, resizes, probe steps: of the layer on top, be it new or not
     pub counts: [u64; 7],
     pub new_layer: bool,
-    /// the order of diagnostics with equal keys, which the Rust leaves free, was not that of their list; it is put right here
+    /// the order of diagnostics with equal keys, which the Rust leaves free, was not that of their lists (old before, reading's, old behind); it is put right here
     pub keys_moved: bool,
 }
 
@@ -68,13 +68,13 @@ fn key(d: &Diagnostic) -> (u32, u32, &str) {
     (d.span().start, d.span().end, d.code())
 }
 
-/// Equal keys in the order of their list; whether that changed anything.
+/// Equal keys in the order of their lists; whether that changed anything.
 fn put_in_order(diagnostics: &mut Vec<Diagnostic>) -> bool {
     assert!(diagnostics.windows(2).all(|w| key(&w[0]) <= key(&w[1])), "the Rust's diagnostics are sorted");
     let moved = diagnostics.windows(2).any(|w| key(&w[0]) == key(&w[1]) && w[0].rest().place > w[1].rest().place);
     diagnostics.sort_by(|a, b| (key(a), a.rest().place).cmp(&(key(b), b.rest().place)));
     for (place, d) in diagnostics.iter_mut().enumerate() {
-        d.set_place(place);
+        d.set_place((0, place as u32));
     }
     moved
 }

@@ -142,7 +142,7 @@ fn lists(r: &mut Runs, carried: &mut Carried) -> Option<Lists> {
     let records = r.run::<18>(9);
     let mut diagnostics = Vec::with_capacity(records.len());
     for (place, d) in records.iter().enumerate() {
-        diagnostics.push(Diagnostic::new(d[1], word(d, 2), span_at(d, 6), word(d, 14), place)?);
+        diagnostics.push(Diagnostic::new(d[1], word(d, 2), span_at(d, 6), word(d, 14), place as u32)?);
     }
     Some(Lists { nodes, pairs, containers, diagnostics })
 }
@@ -181,7 +181,8 @@ fn read_book(tape: &[u8], bytes: &[u8]) -> Option<(Book, Vec<Arc<NodeStore>>)> {
 }
 
 fn read_region(tape: &[u8], bytes: &[u8]) -> Option<(RegionOutput, Carried)> {
-    let Read { normalized, mut layers, lists, carried, .. } = read(tape, bytes)?;
+    let Read { normalized, mut layers, mut lists, carried, .. } = read(tape, bytes)?;
+    lists.diagnostics.iter_mut().for_each(Diagnostic::set_read);
     let region = RegionOutput {
         normalized: normalized.to_owned(),
         diagnostics: lists.diagnostics,
@@ -259,7 +260,7 @@ fn merged_nodes(book: &Book, region: &Range<u32>, reading: &[Plain]) -> Vec<Plai
     [&plain[..before], reading, &plain[behind..]].concat()
 }
 
-/// The Rust leaves the order of equal keys free; document 01 keeps that of the list. Sorted again only where it is not so.
+/// The Rust leaves the order of equal keys free; document 01 keeps that of the lists. Sorted again only where it is not so.
 fn keep_order(diagnostics: &mut [Diagnostic]) {
     let key = |d: &Diagnostic| (d.span().start, d.span().end, d.rest().rank, d.rest().place);
     if !diagnostics.is_sorted_by_key(key) {

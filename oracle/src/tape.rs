@@ -180,7 +180,7 @@ fn read<'a>(tape: &[u8], bytes: &'a [u8]) -> Option<Parts<'a>> {
     let mut diagnostics = Vec::new();
     while r.at(9) {
         let (kind, rank, span, plain) = (r.b()?, r.w()?, r.span()?, r.w()?);
-        diagnostics.push(Diagnostic::new(kind, rank, span, plain, diagnostics.len())?);
+        diagnostics.push(Diagnostic::new(kind, rank, span, plain, diagnostics.len() as u32)?);
     }
     let whole = r.at(10) && r.1 == tape.len() && d.0.is_empty();
     whole.then_some(Parts { text, normalized, store: store?, nodes, pairs, containers, diagnostics, carried })
@@ -203,11 +203,16 @@ impl Book {
     pub fn layers(&self) -> usize {
         self.carried.layers.len()
     }
+    /// Where its marks of no width are: diagnostics that end where they start.
+    pub fn marks(&self) -> impl Iterator<Item = u32> {
+        self.lex.diagnostics.iter().map(Diagnostic::span).filter(|s| s.start == s.end).map(|s| s.start)
+    }
 }
 
 impl Reading {
     pub fn read(tape: &[u8], bytes: &[u8]) -> Option<Self> {
-        let p = read(tape, bytes)?;
+        let mut p = read(tape, bytes)?;
+        p.diagnostics.iter_mut().for_each(Diagnostic::set_read);
         let region = RegionOutput {
             normalized: p.normalized.to_owned(),
             diagnostics: p.diagnostics,

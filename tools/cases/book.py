@@ -1,4 +1,4 @@
-"""Section 4 of document 01 and its numbers 1 to 7: a tape and its bytes read as a book of gen.py, or refused."""
+"""Section 4 of document 01 and its numbers 1 to 7, with wish 5 of document 02: a tape and its bytes read as a book of gen.py, or refused."""
 from gen import NONE, Body, Book, Layer, Node, Seg
 from graft import POOL, fields
 
@@ -114,7 +114,7 @@ def places_hold(b):
         if not (at <= n.start < n.end <= len(b.text) and n.start + moved <= n.off < n.start + moved + n.image()): return False
         at, moved = n.end, moved + drift([n])
     return all(a < e <= c < d <= len(b.text) for _, a, e, c, d in b.pairs) and all(o < c < len(b.norm) for _, o, c in b.containers) \
-        and all(a < e <= len(b.text) for _, _, a, e, _ in b.diags)
+        and all(a <= e <= len(b.text) for _, _, a, e, _ in b.diags)  # document 02, wish 5: a diagnostic may have no width
 
 def check_book(tape, data):
     b = read(tape, data)

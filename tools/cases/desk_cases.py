@@ -118,6 +118,14 @@ calls('20, then another desk', only({3: MOST - 3, 4: 1}), plain(abc), (MOST - 1,
 calls('20, then a smaller reading', only({3: MOST - 2}), plain(abc), (Refused(20), 3, second(3)), (MOST - 1, 3, second(1)), (Refused(20), 3, third(2)), (MOST, 3, third(1)), (MOST, 3, first(0)), (Refused(20), 3, first(1, 'y')), (1, 2, first(1, 'y')), kept=True)
 calls('ends at 20', only({0: 1, 63: MOST - 1}), plain(abc), (2, 0, p5), (MOST, 63, p5), (Refused(20), 63, p5))
 
+# ---- wish 5: its half of 14 is one of the merge's numbers, and a list can come to it by a mark that an earlier reading leaves
+case('14 mark of no width at an empty region, a full total', Refused(14), 14, but_for(only({0: 1, 63: 2}), {14: MOST}), *merge_cases.at_the_end(mark(3)))
+case('14 before 20, 32 layers, mark of no width at an empty region', Refused(14), 3, full(), layers(marked('aa\n', mark(3)), 32), 3, 3, b'x', leaves('x', 1))
+old, marking, appended = plain('aa\n\nbb\n\n'), (4, 5, b'y', but(leaves('yb\n\n', 2), diags=[mark(4)])), (8, 8, b'x', leaves('x', 1))
+calls('a mark of no width left where the next region is empty', only({63: 4}), old, (2, 5, marking), (Refused(14), 63, appended), (Refused(14), 5, appended),
+      (3, 5, (0, 1, b'x', leaves('xa\n\n', 1))), (Refused(14), 63, appended), kept=True)
+calls('the same, the last passage first', only({63: 4}), old, (5, 63, appended), (2, 5, marking), kept=True)
+
 # ---- two corrections in both orders for two desks, and both for one: the totals are equal, and the books
 def both_orders(label, old, earlier, later, nodes):
     """the two corrections on the first book, and how many nodes each has"""

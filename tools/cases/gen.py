@@ -215,11 +215,11 @@ class Gen:
             for _ in range(r.randint(0, many)):
                 a = r.randrange(m - 1)
                 b.containers.append((g.u32(), a, min(m - 1, a + r.choice([1, 2, 3, 5, 8]))))
-        if n:
-            for _ in range(r.choice([0, 1, 2, many, 2 * many, 25 if g.chance(.1) else 3])):
-                a, e = g.span(n)
-                b.diags.append((r.choice(kinds), r.choice([0, 1, 1, 2, 300, 0xffffffff]), a, e, g.u32()))
-            if g.chance(.3): b.diags.sort(key=lambda d: (d[2], d[3], d[1]))
+        for _ in range(r.choice([0, 1, 2, many, 2 * many, 25 if g.chance(.1) else 3])):
+            # document 02, wish 5: some have no width, many of them at the text's ends; in a text of no bytes all
+            a, e = g.span(n) if n and g.chance(.7) else (r.choice([0, n, n, r.randint(0, n)]),) * 2
+            b.diags.append((r.choice(kinds), r.choice([0, 1, 1, 2, 300, 0xffffffff]), a, e, g.u32()))
+        if g.chance(.3): b.diags.sort(key=lambda d: (d[2], d[3], d[1]))
 
     def book(g, text, nlayers, density, many, most, kinds=(0, 1, 2, 3, 4)):
         b = Book(text)
@@ -285,17 +285,25 @@ def blank_line_lost(rust, old, a, e, repl):
     cut = int(r.split()[2]) if r.startswith('region') else len(old.text)
     return cut != len(old.text) and not (old.text[:a] + repl + old.text[e:cut]).endswith(b'\n\n')
 
-def finish(rust, name, old, a, e, repl, reading, want=None):
-    """want: a number that document 01 says; else the Rust's answer"""
+def mark_at_empty_region(rust, old, a, e, repl):
+    """whether the Rust's region is empty and a diagnostic of no width of the old book lies there: document 02, wish 5, refuses such a merge, and the Rust does not"""
+    r = rust.ask('R', case_input(old.tape(), old.bytes(), a, e, repl, b'', b'')).split()
+    return r[0] == 'region' and r[1] == r[2] and any(d[2] == d[3] == int(r[1]) for d in old.diags)
+
+def finish(rust, name, old, a, e, repl, reading):
+    """want: the number that document 02, wish 5, says where the Rust goes on behind its own tests of 14; else None, and the Rust's answer is wanted"""
     ot, ob, rt, rb = old.tape(), old.bytes(), reading.tape(), reading.bytes()
     rustsays = rust.ask('M', case_input(ot, ob, a, e, repl, rt, rb))
+    goes_on = rustsays.startswith('region') or rustsays.startswith('none') and 14 < int(rustsays.split()[1])
+    want = 14 if goes_on and mark_at_empty_region(rust, old, a, e, repl) else None
     return dict(name=name, tape=ot.hex(), bytes=ob.hex(), start=a, end=e, repl=repl.hex(), rtape=rt.hex(), rbytes=rb.hex(), rust=rustsays, want=want)
 
 if __name__ == '__main__':
     seed, count, out, mode = int(sys.argv[1]), int(sys.argv[2]), sys.argv[3], (sys.argv + [''])[4]
     rust = Rust()
     cases, tally = [], {}
-    quota = {'none 11': max(2, count // 12), 'none 10': max(2, count // 12), 'none 9': max(1, count // 20), 'none 13': max(1, count // 10), 'none 14': count // 10, 'none 15': count // 10, 'none 16': count // 10, 'region': count, 'region, nothing reread': count // 10, 'region, few calls': count // 6}
+    quota = {'none 11': max(2, count // 12), 'none 10': max(2, count // 12), 'none 9': max(1, count // 20), 'none 13': max(1, count // 10), 'none 14': count // 10, 'mark at an empty region': count // 10,
+             'none 15': count // 10, 'none 16': count // 10, 'region': count, 'region, nothing reread': count // 10, 'region, few calls': count // 6}
     if mode in ('deep', 'collide'): quota = {k: 0 for k in quota} | {'region': count}
     if mode == 'dep': quota |= {'none 11': 0, 'none 9': 0, 'none 16': 0, 'none 14': 0, 'none 13': 0, 'none 10': count // 3, 'none 15': count // 3, 'region, nothing reread': 0}
     i = left = 0
@@ -307,7 +315,7 @@ if __name__ == '__main__':
             continue
         c = finish(rust, f's{seed}{mode}n{i}', *case)
         w = c['rust'].split()
-        k = ' '.join(w[:2]) if w[0] == 'none' else w[0]
+        k = 'mark at an empty region' if c['want'] else ' '.join(w[:2]) if w[0] == 'none' else w[0]
         if k == 'region': k = 'region, nothing reread' if w[6] == '0' or mode == 'deep' and len(w[16]) < 700 or mode == 'collide' and w[14] == w[11] else 'region, few calls' if int(w[8]) < 3 else 'region'
         if tally.get(k, 0) >= quota.get(k, count): continue
         tally[k] = tally.get(k, 0) + 1

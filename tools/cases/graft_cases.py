@@ -31,7 +31,7 @@ refused(2, 'string', pools([b'\x80']))
 refused(3, '33 layers', but(empty(), layers=[Layer() for _ in range(33)]))
 refused(4, 'id of an empty pool', pools([], [P(0)]))
 refused(5, '33 levels', nest(33))
-refused(6, 'empty diagnostic', but(plain('a'), diags=[(0, 0, 0, 0, 0)]))
+refused(6, 'diagnostic that ends before it starts', marked('a', (0, 0, 1, 0, 0)))
 refused(7, 'normalized text one too long', but(empty(), norm=b'a'))
 refused(7, 'before 18', but(empty(), norm=b'a'), 0, 0, (NONE, NONE, NONE))
 

@@ -1,5 +1,5 @@
 """The stored input of `inspect`: a book of two layers with a record of every command, a node of every kind and class, every tag of a segment
-and an Illustration, missing ids, bytes that are escaped, and an edit whose region is the second of three passages."""
+and an Illustration, missing ids, bytes that are escaped, a mark of no width at the text's end, and an edit whose region is the second of three passages."""
 from small import *
 
 text = '漢字ab"c\\\n\ndefghijklmn\topq\n\nend\x7f'
@@ -22,7 +22,7 @@ def every_kind():
     b.layers.append(second)
     b.pairs = [(k, k, k + 1, k + 1, k + 2) for k in range(5)]
     b.containers = [(7, 3, 9), (4294967295, 0, 1)]
-    b.diags = [(k, 3 * k, k, k + 1, k) for k in range(5)]
+    b.diags = [(k, 3 * k, k, k + 1, k) for k in range(5)] + [mark(len(b.text), 5, 1, 15)]
     return b
 
 edit = (16, 17, 'é'.encode())

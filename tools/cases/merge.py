@@ -1,4 +1,4 @@
-"""Sections 6 and 7 of document 01 and its numbers 8 to 18, with wishes 1 and 2 of document 02: the merge of a reading into a book, tape to tape,
+"""Sections 6 and 7 of document 01 and its numbers 8 to 18, with wishes 1, 2 and 5 of document 02: the merge of a reading into a book, tape to tape,
 and its price."""
 from gen import NONE, Book, Node
 from book import Refused, check_book, check_reading, drift, is_utf8, must, pool, within_limits
@@ -66,6 +66,8 @@ def choose(old, start, end, replacement):
 def normalized(b, cut): return cut + drift([n for n in b.nodes if n.end <= cut])
 def shifted(n, source, norm, body): return Node(n.cls, n.inline, n.start + source, n.end + source, n.off + norm, body)
 
+def key(d): return d[2], d[3], d[1]  # of a diagnostic: start, end, code rank
+
 def spliced(old, reading, nodes, layer, text, start, end):
     """the merged book; nodes and layer: those of the reading, grafted; layer None: no new one"""
     ns, ne = normalized(old, start), normalized(old, end)
@@ -78,9 +80,15 @@ def spliced(old, reading, nodes, layer, text, start, end):
     b.pairs = [p for p in old.pairs if p[4] <= start] + moved(reading.pairs, start) + moved([p for p in old.pairs if p[1] >= end], by)
     b.containers = [c for c in old.containers if c[2] < ns] + moved(reading.containers, ns) + moved([c for c in old.containers if c[1] >= ne], nby)
     def told(diags, by): return [(k, rank, a + by, e + by, plain) for k, rank, a, e, plain in diags]
-    b.diags = [d for d in old.diags if d[3] <= start] + told(reading.diags, start) + told([d for d in old.diags if d[2] >= end], by)
-    b.diags.sort(key=lambda d: (d[2], d[3], d[1]))
+    # document 02, wish 5: a mark at or before the region's start counts as before it, otherwise one at or behind its end as behind
+    before, behind = [d for d in old.diags if d[3] <= start], [d for d in old.diags if d[3] > start and d[2] >= end]
+    b.diags = before + told(reading.diags, start) + told(behind, by)
+    b.diags.sort(key=key)
     return b
+
+def marks_at(b, at):
+    """document 02, wish 5: the diagnostics of no width that lie there, of any kind"""
+    return [d for d in b.diags if d[2] == d[3] == at]
 
 def fitted(tape, data, start, end, replacement, rtape, rdata):
     """1 to 17: the book, the reading, the new text and the region"""
@@ -90,6 +98,7 @@ def fitted(tape, data, start, end, replacement, rtape, rdata):
     must(12, reading.text == text[first:last + len(text) - len(old.text)])
     must(13, depths(reading.nodes, False) == ([0, 0], 0))
     must(14, all(d[0] not in (2, 3) for d in reading.diags))
+    must(14, first < last or not marks_at(old, first))  # document 02, wish 5: nothing tells on which side of the new text it belongs
     must(15, not introduces_ruby_format_dependency(old, reading, first, last))
     must(16, all(is_utf8(old.norm[:normalized(old, cut)]) for cut in (first, last)))
     must(17, not reading.nodes or len(old.layers) < 32)

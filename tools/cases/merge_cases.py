@@ -32,7 +32,7 @@ refused(11, 'P10', plain('abc'), 0, 1, b'x', plain('xbc'))
 # ---- 1 to 7, of the old book and of the reading
 broken = [(1, 'byte behind the end', lambda b: but(b, tail=b'\0')), (1, 'no layer', lambda b: but(b, layers=[])), (2, 'string', lambda b: but(b, layers=[Layer([b'\x80'])])),
           (4, 'id of an empty pool', lambda b: but(b, layers=[Layer([], [P(0)])])), (5, 'level 0 of a Node segment', lambda b: but(b, layers=[Layer([], [], [node(0)])])),
-          (6, 'empty diagnostic', lambda b: but(b, diags=[(0, 0, 0, 0, 0)])), (7, 'normalized text one too long', lambda b: but(b, norm=b.norm + b'a'))]
+          (6, 'diagnostic that ends before it starts', lambda b: but(b, diags=[(0, 0, 1, 0, 0)])), (7, 'normalized text one too long', lambda b: but(b, norm=b.norm + b'a'))]
 for number, what, breaks in broken:
     refused(number, 'old book, ' + what, breaks(plain(abc)), 4, 5, b'x', ruby())
     abc_refused(number, 'reading, ' + what, breaks(plain('xb\n\n')))
@@ -40,7 +40,7 @@ refused(3, 'old book, 33 layers', layers(plain(abc), 33), 4, 5, b'x', ruby())
 abc_refused(1, 'reading with two layers', layers(ruby(), 2))
 abc_refused(1, 'reading with 33 layers', layers(ruby(), 33))
 refused(2, 'replacement', plain(abc), 4, 5, b'\xff', ruby())
-refused(6, 'old book before 7 of the reading', but(plain(abc), diags=[(0, 0, 0, 0, 0)]), 4, 5, b'x', but(plain('xb\n\n'), norm=b''))
+refused(6, 'old book before 7 of the reading', marked(abc, (0, 0, 1, 0, 0)), 4, 5, b'x', but(plain('xb\n\n'), norm=b''))
 refused(7, 'old book before 1 of the reading', but(plain(abc), norm=b''), 4, 5, b'x', but(plain('xb\n\n'), tail=b'\0'))
 
 # ---- 8 to 11, before the reading's numbers
@@ -135,26 +135,96 @@ def joined():
 case('blank line lost between two passages with nodes', joined(), 6, 7, b'x', book('bbx\ncc\n\n', ['bx', 'c'], [P(0), P(1)], [], [inline(1, 3, 1, 0, [0, 1, 1, 1]), leaf(4, 5, 6)]))
 refused(12, 'blank line lost between two passages with nodes, the reading of the first', joined(), 6, 7, b'x', book('bbx\n', nodes=[leaf(0, 1, 5)]))
 
+# ---- document 02, wish 5: marks of no width. "One that lies at or before the region's start counts as before it; otherwise at or behind the region's end
+# counts as behind"
+def kept(label, plains, old, *edit):
+    """plains: the plain words of the merged book's diagnostics, in their order, which tell marks with equal keys apart"""
+    case(label, old, *edit)
+    tape, data, _ = merge(old.tape(), old.bytes(), *edit[:3], edit[3].tape(), edit[3].bytes())
+    assert [d[4] for d in check_book(tape, data).diags] == plains, label
+kept('marks of no width at the cuts, inside and at both ends of the text', [7, 6, 2, 1],
+     marked(abc, mark(10, 1), mark(8, 2), mark(7, 3), mark(6, 4), mark(5, 5), mark(4, 6), mark(0, 7)), 4, 5, b'xy', plain('xyb\n\n'))
+kept('marks of no width around the cuts, a shorter passage', [1, 2], marked(abc, mark(9, 2), mark(7, 4), mark(5, 3), mark(3, 1)), 4, 7, b'\n', plain('\n\n'))
+kept('mark of no width at 0, where the region begins', [1, 3], marked(abc, mark(0, 1), mark(1, 2), mark(4, 3)), 0, 1, b'', plain('a\n\n'))
+kept("mark of no width at the text's end, where the region ends", [3, 1], marked('aa\n\nbb', mark(6, 1), mark(5, 2), mark(4, 3)), 5, 5, b'x', plain('bxb'))
+kept('marks of no width and diagnostics with a width at the cuts', [6, 5, 10, 8, 11, 9, 1, 2],
+     marked(abc, mark(8, 1), (1, 0, 8, 9, 2), (1, 0, 7, 8, 3), (0, 0, 4, 5, 4), mark(4, 5), (4, 0, 3, 4, 6), (4, 0, 3, 5, 7)), 4, 5, b'xx',
+     marked('xxb\n\n', (1, 0, 0, 5, 8), mark(5, 9), mark(0, 10), (1, 0, 4, 5, 11)))
+# the reading's marks at 0 and at its end have the keys of old ones: before, the reading's, behind; but a smaller code rank goes first
+def at_both(*ranks):
+    """marks of these code ranks at both cuts of 4..8, those behind first, and at both ends of the reading"""
+    def ends(*places): return [mark(at, plain + i, kind, rank) for at, plain, kind in places for i, rank in enumerate(ranks)]
+    return marked(abc, *ends((8, 80, 1), (4, 40, 4))), 4, 5, b'xy', marked('xyb\n\n', *ends((5, 50, 0), (0, 0, 1)))
+kept("marks of no width with equal keys: before, the reading's, behind", [40, 41, 0, 1, 50, 51, 80, 81], *at_both(3, 3))
+kept("marks of no width of three code ranks: before, the reading's, behind", [41, 43, 1, 3, 40, 0, 42, 2, 51, 53, 81, 83, 50, 80, 52, 82], *at_both(2, 1, 3, 1))
+kept("marks of no width in a reading of the last passage, also at the text's end", [2, 5, 4, 3, 1], marked('aa\n\nbb', mark(6, 1), mark(4, 2)), 5, 5, b'x', marked('bxb', mark(3, 3), mark(2, 4), mark(0, 5)))
+# the reading of a passage taken away has no bytes, and can have marks
+def taken(n): return marked('aa\n\nbb', *[mark(at, 100 * at + i) for i in range(n) for at in (6, 5, 4)]), 4, 6, b'', marked('', *[mark(0, i, 1) for i in range(n)])
+kept('a passage taken away, the marks of no width at both its ends meet', [400, 0, 600], *taken(1))
+kept('a passage taken away, more than 32 marks of no width meet', [base + i for base in (400, 0, 600) for i in range(12)], *taken(12))
+kept('a passage taken away, marks of no width and diagnostics with a width meet', [1, 4, 2], marked('aa\n\nbb', (1, 0, 3, 4, 1), mark(6, 2), (1, 0, 4, 6, 3), mark(4, 4)), 4, 6, b'', plain(''))
+# one past the text
+refused(6, 'old book, mark of no width one past the text', marked(abc, mark(11)), 4, 5, b'x', ruby())
+abc_refused(6, 'reading, mark of no width one past its text', marked('xb\n\n', mark(5)))
+refused(6, 'reading of no bytes, mark of no width at 1', plain('aa\n\nbb'), 4, 6, b'', marked('', mark(1)))
+# "14 also holds where the region is empty and a mark of no width of the old book lies at its place"
+def at_the_end(*old, reading=None): return marked('aa\n', *old), 3, 3, b'x', reading or plain('x')
+refused(14, 'mark of no width at an empty region', *at_the_end(mark(3)))
+for kind in (1, 2, 3, 4): refused(14, 'mark of no width of kind %d at an empty region' % kind, *at_the_end(mark(3, kind=kind)))
+refused(14, 'mark of no width at an empty region, the first of three', *at_the_end(mark(3), mark(2), (1, 0, 2, 3, 0)))
+refused(14, 'mark of no width at an empty region, the last of three', *at_the_end((1, 0, 2, 3, 0), mark(0), mark(3)))
+refused(14, 'mark of no width at an empty region behind a blank line', marked('aa\n\n', mark(4)), 4, 4, 'é\n'.encode(), plain('é\n'))
+refused(14, 'mark of no width at an empty region behind one newline', marked('aa\n\nbb\n', mark(7)), 7, 7, b'x', plain('x'))
+kept('the same new text, the edit writes the newline again', [1], marked('aa\n\nbb\n', mark(7, 1)), 6, 7, b'\nx', plain('bb\nx'))
+kept('empty region, mark of no width one before its place', [1], *at_the_end(mark(2, 1)))
+kept('empty region, diagnostic with a width that ends at its place', [1], *at_the_end((2, 0, 2, 3, 1)))
+kept('empty region, marks of no width in the reading', [3, 1, 2, 5, 6, 4], *at_the_end(mark(2, 1), (1, 0, 2, 3, 2), mark(0, 3), reading=marked('x', mark(1, 4), mark(0, 5), (0, 0, 0, 1, 6))))
+abc_refused(14, 'mark of no width of kind 2 in the reading', marked('xb\n\n', mark(4, kind=2)))
+# its place among the numbers; 16 is never wrong at an empty region, both cuts being the text's end
+refused(11, 'a text of no bytes, before 14', marked('', mark(0)), 0, 0, b'a', plain('a'))
+refused(7, 'reading, before 14', *at_the_end(mark(3), reading=but(plain('x'), norm=b'')))
+refused(12, 'another text, before 14 by a mark of no width', *at_the_end(mark(3), reading=plain('y')))
+refused(13, 'a block not closed, before 14 by a mark of no width', *at_the_end(mark(3), reading=book('x', nodes=[block(2, 0, 1)])))
+def behind_ruby(*diags): return but(book('aa\n', 'x', [P(0)], [], [inline(0, 1, 1, 0, [0, 1, 0, 0])]), diags=list(diags)), 3, 3, b'x', book('x', 'yx', [P(1)], [], [inline(0, 1, 2, 4, [0, 1])])
+refused(15, 'a Format behind a Ruby of its target, at an empty region', *behind_ruby(mark(2)))
+refused(14, 'mark of no width at an empty region, before 15', *behind_ruby(mark(3)))
+refused(14, 'mark of no width at an empty region, before 17', layers(marked('aa\n', mark(3)), 32), 3, 3, b'x', book('x', nodes=[inline(0, 1, 5)]))
+refused(14, 'mark of no width at an empty region, before 18', *at_the_end(mark(3)), room=(0, 0, 0))
+
 # ---- document 02, wish 7: the ceiling on probing; the returned probes against the list of calls that the reading makes
 for label, reading in probed: case('wish 7: ' + label, plain('aa\n\nb'), 4, 5, reading.text, reading)
 
 # ---- both orders of a pair, demand 3
 class Stored:
     """a result, as the next old book"""
-    def __init__(s, tape, data): s.tape, s.bytes, s.text = lambda: tape, lambda: data, check_book(tape, data).text
-def pair(label, old, first, last):
+    def __init__(s, tape, data):
+        b = check_book(tape, data)
+        s.tape, s.bytes, s.text, s.diags = lambda: tape, lambda: data, b.text, b.diags
+def pair(label, old, first, last, number=0):
+    """number: what refuses the later one behind the earlier, 0 if nothing does"""
     by = len(first[2]) - (first[1] - first[0])
     ends = []
-    for name, edit, other in [('earlier first', first, (last[0] + by, last[1] + by) + last[2:]), ('later first', last, first)]:
+    for name, edit, other, told in [('earlier first', first, (last[0] + by, last[1] + by) + last[2:], number), ('later first', last, first, 0)]:
         case('%s, %s' % (label, name), old, *edit)
         tape, data, _ = merge(old.tape(), old.bytes(), *edit[:3], edit[3].tape(), edit[3].bytes())
-        case('%s, %s, then the other' % (label, name), Stored(tape, data), *other)
+        then = '%s, %s, then the other' % (label, name), Stored(tape, data), *other
+        if told:
+            refused(told, *then)
+            continue
+        case(*then)
         tape, data, _ = merge(tape, data, *other[:3], other[3].tape(), other[3].bytes())
         ends.append(shown(check_book(tape, data)))
-    assert ends[0] == ends[1]
+    assert all(e == ends[0] for e in ends)
 def last(at): return at, at + 2, b'c', book('c', 'qq', [P(1)], [], [inline(0, 1, 14, 0, [0, 1])])
 # the first passage longer by two, the third shorter by one
 pair('both orders', book(abc, 'r', [P(0)], [], [inline(5, 6, 9, 0, [0, 1]), leaf(8, 9, 5)]),
      (0, 1, b'x\xc3\xa9', book('xéa\n\n', ['é', 'q'], [P(1), P(0)], [], [inline(1, 3, 15, 0, [0, 1, 1, 1])])), last(8))
 # wish 1: the second passage joined to the third, the fourth shorter by one; the regions 4..12 and 12..14 touch
 pair('both orders, two passages joined', joined(), (6, 7, b'', book('bb\ncc\n\n', 'q', [P(0)], [], [inline(1, 3, 9, 0, [0, 1])])), last(12))
+# wish 5: marks at the ends of the text, at the cut where the regions 0..4 and 4..8 touch, and in both readings there; the last passage taken away; and
+# a mark that the earlier reading leaves where the later region is empty
+pair('both orders, marks of no width where the regions touch', marked(abc, *[mark(at, at, 4) for at in (10, 8, 7, 4, 2, 0)]),
+     (0, 1, b'xyz', marked('xyza\n\n', mark(6, 21), mark(0, 22))), (4, 5, b'', marked('b\n\n', mark(3, 31, 1), mark(0, 32, 1))))
+pair('both orders, marks of no width, the last passage taken away', marked(abc, *[mark(at, at, 4) for at in (10, 9, 8, 4)]), (4, 6, b'x', marked('x\n\n', mark(3, 21))), (8, 10, b'', marked('', mark(0, 31, 1))))
+left = plain('aa\n\nbb\n\n'), (4, 5, b'y', marked('yb\n\n', mark(4))), (8, 8, b'x', plain('x'))
+pair('both orders, a mark of no width left where the later region is empty', *left, number=14)

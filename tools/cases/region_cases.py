@@ -133,3 +133,8 @@ case("the text's end, one newline before it", plain('aa\n\nbb\n'), 5, 6, b'x', (
 case("the text's end is the old text's", plain(abc), 10, 10, b'x\n\ny', (8, 10))
 case('the next cut has a node across it', nodes(inline(5, 7, 5)), 1, 2, b'x', (0, 9))
 case('the next cut has a pair across it', pair(5, 6, 6, 7), 1, 2, b'x', (0, 9))
+
+# ---- document 02, wish 5: its half of 14 is behind 11, so that a region alone is chosen
+case('empty region, a mark of no width at its place', marked('aa\n', mark(3)), 3, 3, b'x', (3, 3))
+case('11 a text of no bytes, a mark of no width at its place', marked('', mark(0)), 0, 0, b'a', 11)
+case('6 before 8: a mark of no width one past the text', marked('', mark(1)), 1, 0, b'x', 6)

@@ -22,6 +22,9 @@ def inline(a, e, kind, tag=0, words=(), plain=(0, 0)): return Node(0, 0, a, e, 0
 def leaf(a, e, kind, tag=0, words=(), plain=(0, 0)): return Node(1, 0, a, e, 0, Body(kind, tag, plain, words))
 def block(cls, a, e, inline=0, plain=(0, 0)): return Node(cls, inline, a, e, 0, Body(0, 0, plain))
 P = lambda i: (0, i, 0)
+# document 02, wish 5: a diagnostic of no width, and a text with diagnostics
+def mark(at, plain=0, kind=0, rank=0): return kind, rank, at, at, plain
+def marked(text, *diags): return book(text, diags=list(diags))
 # document 02, wish 7: nine strings whose first slot of 256 is 100; and nine of slot 250, the last of which lie round the table's end
 SLOT_100 = 'kiga koru hutu mini muku yawo yume gota papa'.split()
 SLOT_250 = 'kohu sayo suki soke nita habi hunu yuge dasi'.split()

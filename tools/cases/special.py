@@ -82,6 +82,11 @@ put('n13-block', plain(abc), 4, 5, b'x', book('xb\n\n', nodes=[block(2, 0, 1)]))
 put('n13-warichu-close', plain(abc), 4, 5, b'x', book('xb\n\n', ['x'], nodes=[inline(0, 1, 13, 5, [0]), inline(1, 2, 13, 4, [0])]))
 # ---- 14
 d = plain('xb\n\n'); d.diags = [(3, 0, 0, 1, 0)]; put('n14', plain(abc), 4, 5, b'x', d)
+# ---- document 02, wish 5: marks of no width
+put('n06-mark-past-the-text', marked(abc, mark(11)), 4, 5, b'x', ruby(), 6)
+put('n14-mark-at-empty-region', marked('aa\n', mark(3)), 3, 3, b'x', plain('x'), 14)
+put('a-mark-before-empty-region', marked('aa\n', mark(2)), 3, 3, b'x', marked('x', mark(0), mark(1)))
+m = ruby(); m.diags = [mark(4, 6), mark(0, 7)]; put('a-marks-at-the-cuts', marked(abc, mark(10, 1), mark(8, 2), mark(5, 3), mark(4, 4), mark(0, 5)), 4, 5, b'x', m)
 # ---- 15
 put('n15-ruby-before-format', book(abc, ['c'], [P(0)], [], [inline(8, 9, 2, 4, [0, 1])]), 4, 5, b'x', ruby())
 put('n15-format-behind-ruby', book(abc, ['x'], [P(0)], [], [inline(0, 2, 1, 0, [0, 1, 0, 0])]), 4, 5, b'x', book('xb\n\n', ['x'], [P(0)], [], [inline(0, 2, 2, 4, [0, 1])]))

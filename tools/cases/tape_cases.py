@@ -166,7 +166,7 @@ case('5 level equal to one of the second range', 5, pools([], [run(0, 1)], [node
 case('5 level equal to one of its caption', 5, pools([''], [], [node(1), node(1, 11, 2, [0, NONE, NONE, NONE, 0, 1])]))
 case('5 level of a newer layer', 5, pools([], [run(1, 1)], [node(1, 14, 0, [0, 1])], [Layer([], [], [node(1)])]))
 case('5 33 levels', 5, nest(33))
-case('5 before 6: level 0 of a Node segment, and an empty diagnostic', 5, but(plain('a'), layers=[Layer([], [], [node(0)])], diags=[(0, 0, 0, 0, 0)]))
+case('5 before 6: level 0 of a Node segment, and a diagnostic that ends before it starts', 5, but(plain('a'), layers=[Layer([], [], [node(0)])], diags=[(0, 0, 1, 0, 0)]))
 
 # ---- 6: "spans, offsets in images, pairs, containers, diagnostics"; a PageBreak of class 0 has an image of 3 bytes
 def offset(o, cls=0): b = one(cls=cls); b.nodes[0].off = o; return b
@@ -192,10 +192,21 @@ case('6 pair past the text', 6, but(plain('aa'), pairs=[(0, 0, 1, 1, 3)]))
 case('6 container with open = close', 6, but(plain('aa'), containers=[(0, 1, 1)]))
 case('6 container with close = normalized length', 6, but(plain('aa'), containers=[(0, 0, 2)]))
 case('6 container of a longer text, close past the normalized text', 6, but(book('aaaaa', nodes=[inline(0, 5, 5)]), containers=[(0, 0, 4)]))
-# "Diagnostics: non-empty, inside"
-case('6 empty diagnostic', 6, but(plain('a'), diags=[(0, 0, 0, 0, 0)]))
-case('6 diagnostic past the text', 6, but(plain('a'), diags=[(0, 0, 0, 2, 0)]))
-case('6 before 7: empty diagnostic, and a normalized text one too long', 6, but(plain('a'), norm=b'aa', diags=[(0, 0, 0, 0, 0)]))
+# "Diagnostics: non-empty, inside"; document 02, wish 5: "start equal to end become well formed, also at the text's end"
+case('6 diagnostic that ends before it starts', 6, marked('a', (0, 0, 1, 0, 0)))
+case('6 diagnostic past the text', 6, marked('a', (0, 0, 0, 2, 0)))
+case('6 diagnostic that starts past the text and ends in it', 6, marked('a', (0, 0, 2, 1, 0)))
+case('6 before 7: a diagnostic that ends before it starts, and a normalized text one too long', 6, but(plain('a'), norm=b'aa', diags=[(0, 0, 1, 0, 0)]))
+case('6 mark of no width one past the text', 6, marked('a', mark(2)))
+case('6 mark of no width one past a text of no bytes', 6, marked('', mark(1)))
+case('6 mark of no width at 4294967295', 6, marked('a', mark(NONE)))
+case('6 mark of no width one past the text, behind two that are not', 6, marked('a', mark(1), mark(0), mark(2)))
+case('6 mark of no width one past the text, within the normalized text', 6, but(one(), diags=[mark(2)]))
+# "Condition 6 changes for diagnostics only"
+case('6 empty span at the end of the text', 6, spans('a', inline(1, 1, 5)))
+case('6 empty span in a text of no bytes', 6, spans('', inline(0, 0, 5)))
+case('6 pair with nothing in its open and close', 6, but(plain('aa'), pairs=[(0, 1, 1, 1, 1)]))
+case('6 pair with nothing in its open and close, in a text of no bytes', 6, but(empty(), pairs=[(0, 0, 0, 0, 0)]))
 
 # ---- 7: "Normalized length = text length + all drift"
 case('7 normalized text one too long', 7, but(empty(), norm=b'a'))
@@ -238,6 +249,13 @@ case('container up to the last normalized byte', 0, but(plain('aa'), containers=
 case('diagnostics of kinds 0 and 1, not sorted', 0, but(plain('aa'), diags=[(1, 0, 1, 2, 0), (0, NONE, 0, 1, NONE)]))
 case('diagnostics of kinds 1 and 2', 0, but(plain('aa'), diags=[(1, 0, 0, 1, 0), (2, 0, 1, 2, 0)]))
 case('diagnostic of kind 4', 0, but(plain('a'), diags=[(4, 0, 0, 1, 0)]))
+# document 02, wish 5
+case('mark of no width at 0', 0, marked('a', mark(0)))
+case("mark of no width at the text's end", 0, marked('a', mark(1)))
+case('mark of no width in a text of no bytes', 0, marked('', mark(0)))
+case('mark of no width inside a character', 0, marked('é', mark(1)))
+case('marks of no width of kinds 1 and 2', 0, marked('a', mark(1, kind=1), mark(0, kind=2)))
+case('marks of no width of each kind, not sorted, and a diagnostic with a width', 0, marked('aa', *[mark(2 - k // 2, NONE, k, k) for k in range(5)], (0, 0, 0, 2, 0), mark(2)))
 case('64 bytes, which fit', 0, plain(b'0123456789abcdef' * 2))
 case('65 bytes: 18', 0, book('0123456789abcdef' * 2, ['x']))
 case('a tape of 2048 bytes, which fits', 0, pools([''] * 407, layers=[Layer(), Layer()]), 406)

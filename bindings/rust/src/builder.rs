@@ -215,7 +215,7 @@ impl BookBuilder {
         self
     }
 
-    /// A diagnostic.
+    /// A diagnostic; its span may be empty, also at the text's end.
     pub fn diagnostic(&mut self, diagnostic: Diagnostic) -> &mut Self {
         self.diagnostics.push(diagnostic);
         self

@@ -204,6 +204,9 @@ const NO_LIMIT: Lengths = Lengths { tape: usize::MAX, bytes: usize::MAX };
 /// reading can stand for a large result; where it comes from a stranger, [`merge_within`] bounds
 /// the memory.
 ///
+/// [`Diagnostic`](crate::Diagnostic) says how those of no width are carried, and what to do where
+/// one of them refuses the merge.
+///
 /// # Errors
 ///
 /// A number 1 to 18: [`Refusal`] says what each means.

@@ -28,7 +28,8 @@ pub enum Refusal {
     IdOrRange = 4,
     /// 5: the level of a segment.
     Level = 5,
-    /// 6: spans, normalized offsets in images, pairs, containers, diagnostics.
+    /// 6: spans, normalized offsets in images, pairs, containers, diagnostics. Of these a
+    /// [`Diagnostic`](crate::Diagnostic) may have an empty span, no other (document 02, wish 5).
     Place = 6,
     /// 7: the normalized length is not the text's length with all drift.
     NormalizedLength = 7,
@@ -44,7 +45,10 @@ pub enum Refusal {
     OtherText = 12,
     /// 13: `balanced_nodes` is false.
     Unbalanced = 13,
-    /// 14: the reading has a diagnostic of kind `UnclosedBracket` or `UnmatchedClose`.
+    /// 14: the reading has a diagnostic of kind `UnclosedBracket` or `UnmatchedClose`; or the region
+    /// is empty, which it is only where text is added at the end of a text that ends in a newline,
+    /// and the old book has a diagnostic of no width there, of any kind (document 02, wish 5).
+    /// [`Diagnostic`](crate::Diagnostic) says what to do then.
     Unclosed = 14,
     /// 15: `introduces_ruby_format_dependency`.
     NewRubyFormatDependency = 15,
@@ -115,7 +119,7 @@ impl Refusal {
             }
             Self::Place => {
                 "something lies at an impossible place: look for empty, overlapping or unordered node spans, for spans past the text, for a \
-                 normalized offset outside of its node's image, and at pairs, containers and diagnostics"
+                 normalized offset outside of its node's image, at pairs and containers, and for a diagnostic whose start is behind its end"
             }
             Self::NormalizedLength => {
                 "the normalized text is not as long as the text and the nodes' images make it: an image has 3 bytes, or 7 with padding"
@@ -139,7 +143,9 @@ impl Refusal {
                 "the reading opens a block or warichu that it does not close, or closes one that it did not open: parse the whole text"
             }
             Self::Unclosed => {
-                "the reading has a bracket without its partner (UnclosedBracket or UnmatchedClose): parse the whole text"
+                "the reading has a bracket without its partner (UnclosedBracket or UnmatchedClose): parse the whole text; or text is added at the end of a \
+                 text that ends in a newline, and the old book has a diagnostic of no width there: let the edit begin at that newline and write it again before \
+                 the new text, or parse the whole text"
             }
             Self::NewRubyFormatDependency => {
                 "the reading has a Ruby and a Referenced Format follows the passage, or it has a Referenced Format whose target is the base of an earlier \

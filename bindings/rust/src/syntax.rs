@@ -572,14 +572,45 @@ pub struct ContainerPair {
     pub close: NormalizedOffset,
 }
 
-/// A diagnostic.
+/// A diagnostic. Its span may be empty: a mark of no width between two characters, or at an end of
+/// the text (document 02, wish 5).
+///
+/// In a merge a mark of the old book that lies at the region's start or before stays where it is.
+/// If it does not, it is moved with the text if it lies at the region's end or behind, and else
+/// dropped. So a mark at an end of the region stays, and a reading that has it too puts a second
+/// one there; one at 0 or at the text's end is never dropped.
+///
+/// Text that is added at the end of a text that ends in a newline has an empty region. Nothing tells
+/// on which side of it a mark there belongs, so the merge is refused with 14. With that newline in
+/// the edit the region is another, the reading is of the whole last passage, and the mark stays at
+/// the text's end. Where that is refused with 11, the whole text has to be parsed.
+///
+/// ```
+/// use aozora_incremental::{
+///     Book, BookBuilder, Diagnostic, DiagnosticKind, Edit, Refusal, Span, merge,
+/// };
+///
+/// let (kind, span) = (DiagnosticKind::Other, Span::new(7, 7));
+/// let mark = Diagnostic { kind, code_rank: 0, span, plain: 0 };
+/// let old = BookBuilder::new().text("aa\n\nbb\n").diagnostic(mark).build()?;
+///
+/// let reading = BookBuilder::new().text("cc").build_reading()?;
+/// assert_eq!(merge(&old, Edit::new(7, 7, "cc"), &reading), Err(Refusal::Unclosed));
+///
+/// let reading = BookBuilder::new().text("bb\ncc").build_reading()?;
+/// let merged = merge(&old, Edit::new(6, 7, "\ncc"), &reading)?;
+/// let book = Book::new(&merged.book)?;
+/// assert_eq!(book.text(), "aa\n\nbb\ncc");
+/// assert_eq!(book.diagnostics().next().map(|d| d.span), Some(Span::new(9, 9)));
+/// # Ok::<(), Refusal>(())
+/// ```
 #[derive(Debug, Clone, Copy, PartialEq, Eq, Hash)]
 pub struct Diagnostic {
     /// What it is about.
     pub kind: DiagnosticKind,
     /// The place of its code among all codes in byte order.
     pub code_rank: u32,
-    /// Its part of the text.
+    /// Its part of the text, perhaps empty.
     pub span: Span,
     /// Copied, never read.
     pub plain: u32,

@@ -5,8 +5,8 @@ mod common;
 
 use aozora_incremental::*;
 use common::{
-    ABC, Random, desk_agrees, lavish, plain, price_agrees, random_book, read_all, rounds,
-    ruby_reading,
+    ABC, Random, desk_agrees, diagnostic, lavish, plain, price_agrees, random_book, read_all,
+    rounds, ruby_reading,
 };
 
 /// A small book with a record of each kind.
@@ -35,6 +35,13 @@ fn small() -> StoredBook {
         code_rank: 9,
         span: Span::new(0, 2),
         plain: 6,
+    });
+    let end = b.text_len() as u32;
+    b.diagnostic(Diagnostic {
+        kind: DiagnosticKind::Other,
+        code_rank: 8,
+        span: Span::new(end, end),
+        plain: 7,
     });
     b.layer();
     b.plain("x");
@@ -221,7 +228,14 @@ fn with_nodes(b: &mut BookBuilder, text: &str, nodes: &mut Vec<SourceNode>, r: &
     }
 }
 
-/// A reading of the edit's region: random pools and nodes over the region's new text.
+/// Some diagnostics that no merge refuses.
+fn remarks(b: &mut BookBuilder, r: &mut Random) {
+    for _ in 0..r.below(3) {
+        diagnostic(b, DiagnosticKind::Other, r);
+    }
+}
+
+/// A reading of the edit's region: random pools, nodes over the region's new text, diagnostics.
 fn reading_for(old: &StoredBook, edit: Edit<'_>, r: &mut Random) -> StoredBook {
     let Ok(region) = choose_region(old, edit) else { return plain("") };
     let book = Book::new(old).unwrap();
@@ -231,6 +245,7 @@ fn reading_for(old: &StoredBook, edit: Edit<'_>, r: &mut Random) -> StoredBook {
     let mut reading = BookBuilder::new();
     let mut nodes = pools(&mut reading, r);
     with_nodes(&mut reading, &text, &mut nodes, r);
+    remarks(&mut reading, r);
     reading.build_reading().unwrap()
 }
 
@@ -279,8 +294,11 @@ fn random_orders() {
         let mut b = BookBuilder::new();
         let mut nodes = pools(&mut b, r);
         with_nodes(&mut b, "あa人\n\nbé\n\nccc\n\n", &mut nodes, r);
+        remarks(&mut b, r);
         let old = b.build().unwrap();
-        let last = (b.text_len() - 5 + r.below(3)) as u32;
+        // Now and then at the text's end, where its region is empty.
+        let back = [5, 4, 3, 0][r.below(4)];
+        let last = (b.text_len() - back) as u32;
         let (one, two) = (Edit::new(0, 3, r.text()), Edit::new(last, last, r.text()));
         let (first, second) = (reading_for(&old, one, r), reading_for(&old, two, r));
         let orders =

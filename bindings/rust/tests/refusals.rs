@@ -80,7 +80,7 @@ fn reached() -> Vec<(u32, Refusal)> {
     case(
         6,
         p5(
-            &built(|b| _ = b.text(ABC).diagnostic(diagnostic(DiagnosticKind::Other, 1, 1))),
+            &built(|b| _ = b.text(ABC).diagnostic(diagnostic(DiagnosticKind::Other, 2, 1))),
             x(),
             &reading,
         ),
@@ -112,6 +112,8 @@ fn reached() -> Vec<(u32, Refusal)> {
             p5(&old, x(), &built(|b| _ = b.text("xb\n\n").diagnostic(diagnostic(kind, 0, 1)))),
         );
     }
+    let marked = built(|b| _ = b.text("aa\n").diagnostic(diagnostic(DiagnosticKind::Other, 3, 3)));
+    case(14, p5(&marked, Edit::new(3, 3, "x"), &plain("x")));
     let behind = built(|b| {
         let format = format(b, "q");
         b.text("aa\n\nbb\n\n").node("c", format).text("c");

@@ -218,7 +218,8 @@ fn fields_of_bodies() {
     }
 }
 
-/// Lists written by hand: a pair, a container, a diagnostic, a block's open and close.
+/// Lists written by hand: a pair, a container, two diagnostics, one of them of no width, a block's
+/// open and close.
 #[test]
 fn fields_of_lists() {
     let words = |words: &[u32]| words.iter().flat_map(|w| w.to_le_bytes()).collect::<Vec<u8>>();
@@ -228,9 +229,11 @@ fn fields_of_lists() {
         [&[6, 3, 0][..], &words(&[1, 2, 5]), &[0, 0], &words(&[3, 4, 0, 0, 0, 0, 0, 0])].concat();
     let pair = [&[7, 3][..], &words(&[0, 1, 2, 4])].concat();
     let container = [&[8][..], &words(&[11, 5, 6])].concat();
-    let diagnostic = [&[9, 1][..], &words(&[12, 2, 4, 13])].concat();
+    let wide = [&[9, 1][..], &words(&[12, 2, 4, 13])].concat();
+    let mark = [&[9, 4][..], &words(&[14, 5, 5, 15])].concat();
+    let diagnostics = [wide, mark].concat();
     let tape =
-        [&[1][..], &words(&[5, 13]), &[2], &open, &close, &pair, &container, &diagnostic, &[10]]
+        [&[1][..], &words(&[5, 13]), &[2], &open, &close, &pair, &container, &diagnostics, &[10]]
             .concat();
     let bytes = b"abcdennnnnnnnnncde".to_vec();
     let stored = Stored::new(&tape, &bytes);
@@ -246,13 +249,11 @@ fn fields_of_lists() {
         open: NormalizedOffset(5),
         close: NormalizedOffset(6)
     }]));
-    let kind = DiagnosticKind::NonCanonicalDirective;
-    assert!(book.diagnostics().eq([Diagnostic {
-        kind,
-        code_rank: 12,
-        span: Span::new(2, 4),
-        plain: 13
-    }]));
+    let (kind, span) = (DiagnosticKind::NonCanonicalDirective, Span::new(2, 4));
+    let wide = Diagnostic { kind, code_rank: 12, span, plain: 13 };
+    let (kind, span) = (DiagnosticKind::Other, Span::new(5, 5));
+    let mark = Diagnostic { kind, code_rank: 14, span, plain: 15 };
+    assert!(book.diagnostics().eq([wide, mark]));
     rebuilt(stored);
 }
 

@@ -8,10 +8,10 @@
 ghost use Rattle.std.specs.Prelude.{◌≡◌, ◌+◌, ◌*◌, ◌≤◌, ◌<◌, length};
 ghost use Rattle.model.specs.Lists.{all};
 ghost use Rattle.model.specs.Tape.{record_at, records_at, node_codec, pair_codec, container_codec, diagnostic_codec};
-ghost use Rattle.model.specs.WellFormed.{span_ok, pair_ok, container_ok, image_length, span_length};
+ghost use Rattle.model.specs.WellFormed.{span_ok, pair_ok, container_ok, diagnostic_ok, image_length, span_length};
 ghost use Rattle.model.specs.Lookup.{diagnostics_allow_incremental, node_at_source};
 ghost use Rattle.records.specs.Values.{pair_link_of, container_pair_of, diagnostic_of};
-ghost use Rattle.bounds.specs.Spans.{span_of, diagnostic_inside, allows_incremental};
+ghost use Rattle.bounds.specs.Spans.{span_of, allows_incremental};
 ghost use Rattle.bounds.specs.Walk.{padding_of, in_image, node_placed, sums_if_placed};
 ghost use Rattle.bounds.specs.Search.{start_of, Split, InOrder, found_of};
 
@@ -41,6 +41,14 @@ pub fn container_ok(c: records::ContainerPair, size: usize) -> bool
     c.opening < c.closing && (c.closing as usize) < size
 }
 
+// Wish 5. A diagnostic may have no width, also at the text's end.
+#[tactic(auto, using(std::proofs::lemmas::Bool::Decides::nat_tests), unfolding(model::specs::WellFormed::diagnostic_ok))]
+pub fn diagnostic_ok(d: records::Diagnostic, size: usize) -> bool
+    ensures { result ≡ diagnostic_ok size (diagnostic_of d) }
+{
+    d.start <= d.end && d.end as usize <= size
+}
+
 // Each is one line over its kind of record, with a test of its own: a trait of the three would state each clause again.
 pub fn pairs_placed(tape: &[u8], pairs: places::Run, size: usize) -> bool
     requires { pairs.at + 18 * pairs.count ≤ length tape.now }
@@ -62,12 +70,12 @@ pub fn containers_placed(tape: &[u8], containers: places::Run, size: usize) -> b
 
 pub fn diagnostics_placed(tape: &[u8], diagnostics: places::Run, size: usize) -> bool
     requires { diagnostics.at + 18 * diagnostics.count ≤ length tape.now }
-    ensures { result ≡ all (diagnostic_inside size) (records_at diagnostic_codec tape.now diagnostics.at diagnostics.count) }
+    ensures { result ≡ all (diagnostic_ok size) (records_at diagnostic_codec tape.now diagnostics.at diagnostics.count) }
 {
-    (0..diagnostics.count).all(|i| {
-        let d = records::diagnostic_at(tape, diagnostics.at + 18 * i);
-        span_ok(d.start, d.end, size)
-    })
+    (0..diagnostics.count).all(|i| diagnostic_ok(
+        records::diagnostic_at(tape, diagnostics.at + 18 * i),
+        size,
+    ))
 }
 
 // UnclosedBracket is the first kind that allows no reading of a part: before it are UnresolvedGaiji and NonCanonicalDirective.

@@ -1,6 +1,6 @@
--- What is promised of merges, clause by clause, as a reader asks for it: a merge's result is accepted again; and what demand 3
--- says of four accepted merges. The edits in must-fail/ ask for more.
-use Rattle.std.specs.Prelude.{◌≡◌, ℕ, ◌+◌, ◌<◌}
+-- What is promised of merges, clause by clause, as a reader asks for it: a merge's result is accepted again; what it keeps it keeps once
+-- (wish 5); and what demand 3 says of four accepted merges. The edits in must-fail/ ask for more.
+use Rattle.std.specs.Prelude.{◌≡◌, ℕ, ◌+◌, ◌<◌, []}
 use Rattle.std.proofs.Common.{sym, ◌∙◌}
 use Rattle.std.proofs.Math.Path.{ap}
 use Rattle.model.specs.Lists.{sum}
@@ -10,14 +10,17 @@ use Rattle.model.specs.Store.{string_counts}
 use Rattle.model.specs.WellFormed.{check_book}
 use Rattle.model.specs.Tree.{shown_nodes}
 use Rattle.model.specs.Region.{Edit, balanced_region}
-use Rattle.model.specs.Merge.{Stored, Room, IncrementalOutput, merge}
+use Rattle.model.specs.Merge.{Stored, Room, IncrementalOutput, node_located, diagnostic_located, merge, Fitted, fitted}
+use Rattle.model.specs.Once.{on_both_sides, KeptOnce, CountedOnce}
 use Rattle.model.specs.Lookup.{lookup_str}
 use Rattle.model.specs.Demand3.{Shown, shown, Correction, StoredBytes, region_behind, Separate, BothOrders, Commutes, Demand3}
-use Rattle.laws.specs.Checks.{checked_book, checked_reading, merge_accepted, merged_of}
+use Rattle.laws.specs.Checks.{bind_accepted, checked_book, checked_reading, merge_accepted, merged_of}
 use Rattle.laws.specs.ReadFits.{read_fits_lem}
+use Rattle.laws.specs.Estimate.{finished, merge_fitted}
 use Rattle.commute.specs.Step.{step_of}
 use Rattle.commute.specs.Book.{output_again}
 use Rattle.commute.proofs.Demand3.{demand3}
+use Rattle.commute.proofs.Once.{counted_once}
 
 -- The output of an accepted merge is accepted as a book.
 pub merged_again : (s : Stored) (e : Edit) (rs : Stored) (room : Room) (m : IncrementalOutput) → StoredBytes s → StoredBytes rs → merge s e rs room ≡ accepted m
@@ -27,6 +30,23 @@ merged_again s e rs room m hs hr q =
     let fb = read_fits_lem s.tape hs.tape s.bytes a.old (checked_book s.tape s.bytes a.old a.book).0 in
     let fr = read_fits_lem rs.tape hr.tape rs.bytes a.reading (checked_reading rs.tape rs.bytes a.reading a.read).0 in
     (merged_of a.old e a.reading (balanced_region a.old e), output_again (step_of s a.old e rs a.reading room m fb fr a.book a.read q))
+
+-- Wish 5. An accepted merge has passed 1 to 17, so that nothing of its old book is kept twice.
+pub merged_once : (s : Stored) (e : Edit) (rs : Stored) (room : Room) (m : IncrementalOutput) → merge s e rs room ≡ accepted m
+    → (f : Fitted) × (fitted s e rs ≡ accepted f) × KeptOnce f.old f.window
+unfolding CountedOnce
+merged_once s e rs room m q = let f = bind_accepted (fitted s e rs) (finished e room) m (sym (merge_fitted s e rs room) ∙ q) in (f.0, f.1, counted_once s e rs f.0 f.1)
+
+module _ (s : Stored) (e : Edit) (rs : Stored) (f : Fitted) (p : fitted s e rs ≡ accepted f) where
+  once : KeptOnce f.old f.window
+  unfolding CountedOnce
+  once = counted_once s e rs f p
+
+  pub nodes_once : on_both_sides node_located f.window f.old.source_nodes ≡ []
+  nodes_once = once.source_nodes
+
+  pub diagnostics_once : on_both_sides diagnostic_located f.window f.old.diagnostics ≡ []
+  diagnostics_once = once.diagnostics
 
 -- ---- demand 3
 

@@ -142,6 +142,8 @@ demand3 stored b bytes hb earlier later bytesE bytesL sep o =
       apart = apart;
       second_l = fit_of s₂;
       second_e = fit_of s₄;
+      unmarked_l = s₂.facts.unmarked;
+      unmarked_e = s₄.facts.unmarked;
     } in
     let t = texts_agree four in
     let n = normalized_agree four in

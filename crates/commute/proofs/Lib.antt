@@ -1,4 +1,5 @@
 pub mod Before
 pub mod Orders
 pub mod Demand3
+pub mod Once
 pub mod Clauses

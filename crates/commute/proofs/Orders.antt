@@ -1,6 +1,6 @@
 -- Two corrections of one book with separate regions, E the earlier-lying and L the later-lying: the two orders give equal
 -- texts, pairs, containers, diagnostics and shown nodes. Section 7.
-use Rattle.std.specs.Prelude.{◌≡◌, ℕ, ◌+◌, ◌-◌, ◌≤◌, ◌<◌, Bool, false, ◌&&◌, ◌||◌, List, map, pos}
+use Rattle.std.specs.Prelude.{◌≡◌, ℕ, ◌+◌, ◌-◌, ◌≤◌, ◌<◌, Bool, false, ◌&&◌, ◌||◌, List, [], map, pos}
 use Rattle.std.proofs.Math.Path.{refl, sym, ap}
 use Rattle.std.proofs.Common.{ap₂, ◌∙◌, leb-true, ltb-true, le-leb}
 use native.Mathlib.Omega.{arith}
@@ -11,20 +11,22 @@ use Rattle.model.specs.Lists.{all}
 use Rattle.model.specs.Limits.{max_text}
 use Rattle.model.specs.Offset.{Span, shift_clamp, shifted}
 use Rattle.model.specs.Types.{PairLink, ContainerPair, Diagnostic, LexOutput, RegionOutput}
-use Rattle.model.specs.WellFormed.{span_ok, pair_ok, container_ok}
+use Rattle.model.specs.WellFormed.{span_ok, pair_ok, container_ok, diagnostic_ok}
 use Rattle.model.specs.Store.{store_of}
 use Rattle.model.specs.Tree.{ShownNode, shown_node, shown_nodes}
 use Rattle.model.specs.Region.{Edit, edited, behind_edit}
 use Rattle.model.specs.Merge.{MergeWindow, IncrementalOutput, change_in_length, window_of, normalized_offset, moved_offset, kept_before, kept_behind, spliced, shifted_pair, pair_located, container_located, shifted_diagnostic, diagnostic_located, not_behind, sort_diagnostics, merged_normalized, merged_book}
+use Rattle.model.specs.Once.{on_both_sides}
 use Rattle.model.specs.Demand3.{moved_behind, region_behind}
 use Rattle.laws.specs.Lists.{both, all_and}
 use Rattle.laws.specs.Keep.{all_map_is, all_if}
 use Rattle.laws.specs.Checks.{merged_of}
 use Rattle.laws.specs.Splice.{splice_comm}
 use Rattle.laws.specs.Sort.{sort_first, all_sort_is, not_behind_moved}
-use Rattle.laws.specs.Located.{two_orders}
-use Rattle.laws.specs.Nodes.{span_facts, pair_facts, container_facts, starts_at, node_in, normal_rises, normal_inside, offsets_behind, offsets_small}
-use Rattle.commute.specs.Merged.{Fit, p, q, moved_sum, placed_number, length_sum, behind_sum, normal_region_rises, offset_sum, source_carried, pairs_carried, diagnostics_carried, containers_carried}
+use Rattle.laws.specs.Located.{one_side, CarriedWide, kept_once, two_orders, two_orders_wide}
+use Rattle.laws.specs.Marks.{unmarked_sides}
+use Rattle.laws.specs.Nodes.{span_facts, diagnostic_facts, pair_facts, container_facts, starts_at, node_in, normal_rises, normal_inside, offsets_behind, offsets_small}
+use Rattle.commute.specs.Merged.{Fit, p, q, region_rises, moved_sum, placed_number, length_sum, behind_sum, normal_region_rises, offset_sum, source_wide, pairs_wide, diagnostics_carried, containers_wide}
 use Rattle.commute.specs.Orders.{FourMerges}
 use Rattle.commute.specs.Places.{normal_before, normal_moves}
 use Rattle.commute.specs.Step.{Step}
@@ -36,12 +38,12 @@ pub sorted_again : {old : LexOutput} {e : Edit} {reading : RegionOutput} {r : Sp
 unfolding merged_book spliced kept_before kept_behind diagnostic_located shifted_diagnostic
 sorted_again {old} {e} {reading} {r} f ds h =
     let w = window_of old e reading r in
-    let ok : Diagnostic → Bool = λ d. span_ok (length old.sanitized) d.span in
+    let ok : Diagnostic → Bool = diagnostic_ok (length old.sanitized) in
     ap (λ (l : List Diagnostic). sort_diagnostics (spliced diagnostic_located w l reading.diagnostics)) h
     ∙ sort_first ok (λ d. leb d.span.end w.source.start) (λ d. leb w.source.end d.span.start) (diagnostic_located.moved w) moved ds (map (diagnostic_located.placed w) reading.diagnostics)
     (sym (all_sort_is ok ds) ∙ rw h at f.old_sound.places.diagnostics)
   where
-    moved : (d d₁ : Diagnostic) → span_ok (length old.sanitized) d.span ≡ true → span_ok (length old.sanitized) d₁.span ≡ true
+    moved : (d d₁ : Diagnostic) → diagnostic_ok (length old.sanitized) d ≡ true → diagnostic_ok (length old.sanitized) d₁ ≡ true
         → leb (window_of old e reading r).source.end d.span.start ≡ true → leb (window_of old e reading r).source.end d₁.span.start ≡ true
         → not_behind d d₁ ≡ false → not_behind (diagnostic_located.moved (window_of old e reading r) d) (diagnostic_located.moved (window_of old e reading r) d₁) ≡ false
     moved d d₁ o o₁ k k₁ n =
@@ -181,7 +183,9 @@ module _ {b : LexOutput} {E L : Edit} {RE RL : RegionOutput} {r_e r_l : Span} (m
   pub pairs_agree : (merged_of b_e L' RL (region_behind E r_l)).pairs ≡ (merged_of b_l E RE r_e).pairs
   unfolding merged_book pair_located window_of shifted_pair shifted
   pairs_agree =
-      two_orders w_l' (pairs_carried m.first_e) (pairs_carried m.first_l) m.apart start_moves end_moves twice again b.pairs RE.pairs RL.pairs
+      let x = pairs_wide m.first_e in
+      let y = pairs_wide m.first_l in
+      two_orders_wide w_l' x.carried y.carried m.apart start_moves end_moves twice again x.wide x.wide_read y.wide_read b.pairs RE.pairs RL.pairs
       m.first_e.old_sound.places.pairs m.first_e.reading_sound.places.pairs m.first_l.reading_sound.places.pairs
       ∙ ap (λ (w : MergeWindow). spliced pair_located w (spliced pair_located w_l b.pairs RL.pairs) RE.pairs) (sym window_again)
     where
@@ -202,7 +206,9 @@ module _ {b : LexOutput} {E L : Edit} {RE RL : RegionOutput} {r_e r_l : Span} (m
   pub containers_agree : (merged_of b_e L' RL (region_behind E r_l)).container_pairs ≡ (merged_of b_l E RE r_e).container_pairs
   unfolding merged_book container_located window_of
   containers_agree =
-      two_orders w_l' (containers_carried m.first_e) (containers_carried m.first_l) rise_m start_moves_normal end_moves_normal twice again b.container_pairs RE.container_pairs RL.container_pairs
+      let x = containers_wide m.first_e in
+      let y = containers_wide m.first_l in
+      two_orders_wide w_l' x.carried y.carried rise_m start_moves_normal end_moves_normal twice again x.wide x.wide_read y.wide_read b.container_pairs RE.container_pairs RL.container_pairs
       m.first_e.old_sound.places.container_pairs m.first_e.reading_sound.places.container_pairs m.first_l.reading_sound.places.container_pairs
       ∙ ap (λ (w : MergeWindow). spliced container_located w (spliced container_located w_l b.container_pairs RL.container_pairs) RE.container_pairs) (sym window_again)
     where
@@ -218,18 +224,35 @@ module _ {b : LexOutput} {E L : Edit} {RE RL : RegionOutput} {r_e r_l : Span} (m
 
   -- ---- diagnostics
 
+  -- beside the second merge's region none counts on both sides
+  once_later : on_both_sides diagnostic_located w_l' (spliced diagnostic_located w_e b.diagnostics RE.diagnostics) ≡ []
+  unfolding merged_book window_of
+  once_later =
+      let ds = spliced diagnostic_located w_e b.diagnostics RE.diagnostics in
+      kept_once diagnostic_located w_l' ds
+      (sym (all_sort_is (one_side diagnostic_located w_l') ds)
+      ∙ unmarked_sides w_l' (length b_e.sanitized) (region_rises m.second_l) b_e.diagnostics m.unmarked_l m.second_l.old_sound.places.diagnostics)
+
+  once_earlier : on_both_sides diagnostic_located w_e (spliced diagnostic_located w_l b.diagnostics RL.diagnostics) ≡ []
+  unfolding merged_book window_of
+  once_earlier =
+      let ds = spliced diagnostic_located w_l b.diagnostics RL.diagnostics in
+      kept_once diagnostic_located w_e ds
+      (sym (all_sort_is (one_side diagnostic_located w_e) ds)
+      ∙ unmarked_sides w_e (length b_l.sanitized) (region_rises m.first_e) b_l.diagnostics m.unmarked_e m.second_e.old_sound.places.diagnostics)
+
   unsorted_agree : spliced diagnostic_located w_l' (spliced diagnostic_located w_e b.diagnostics RE.diagnostics) RL.diagnostics
       ≡ spliced diagnostic_located w_e (spliced diagnostic_located w_l b.diagnostics RL.diagnostics) RE.diagnostics
   unfolding diagnostic_located window_of shifted_diagnostic shifted
   unsorted_agree =
       two_orders w_l' (diagnostics_carried m.first_e) (diagnostics_carried m.first_l) m.apart start_moves end_moves twice again b.diagnostics RE.diagnostics RL.diagnostics
-      m.first_e.old_sound.places.diagnostics m.first_e.reading_sound.places.diagnostics m.first_l.reading_sound.places.diagnostics
+      m.first_e.old_sound.places.diagnostics m.first_e.reading_sound.places.diagnostics m.first_l.reading_sound.places.diagnostics once_later once_earlier
     where
-      twice : (d : Diagnostic) → span_ok (length b.sanitized) d.span ≡ true → r_l.end ≤ d.span.start → diagnostic_located.moved w_l' (diagnostic_located.moved w_e d) ≡ diagnostic_located.moved w_e (diagnostic_located.moved w_l d)
-      twice d o h = let g = span_facts (length b.sanitized) d.span o in let g₂ = g.1 in rw (twice_number d.span.start h (omega arith), twice_number d.span.end (omega arith) g₂)
+      twice : (d : Diagnostic) → diagnostic_ok (length b.sanitized) d ≡ true → r_l.end ≤ d.span.start → diagnostic_located.moved w_l' (diagnostic_located.moved w_e d) ≡ diagnostic_located.moved w_e (diagnostic_located.moved w_l d)
+      twice d o h = let g = diagnostic_facts (length b.sanitized) d o in let g₂ = g.1 in rw (twice_number d.span.start h (omega arith), twice_number d.span.end (omega arith) g₂)
 
-      again : (d : Diagnostic) → span_ok (length RL.sanitized) d.span ≡ true → diagnostic_located.placed w_l' d ≡ diagnostic_located.moved w_e (diagnostic_located.placed w_l d)
-      again d o = let g = span_facts (length RL.sanitized) d.span o in let g₂ = g.1 in rw (placed_twice d.span.start (omega arith), placed_twice d.span.end g₂)
+      again : (d : Diagnostic) → diagnostic_ok (length RL.sanitized) d ≡ true → diagnostic_located.placed w_l' d ≡ diagnostic_located.moved w_e (diagnostic_located.placed w_l d)
+      again d o = let g = diagnostic_facts (length RL.sanitized) d o in let g₂ = g.1 in rw (placed_twice d.span.start (omega arith), placed_twice d.span.end g₂)
 
   pub diagnostics_agree : (merged_of b_e L' RL (region_behind E r_l)).diagnostics ≡ (merged_of b_l E RE r_e).diagnostics
   unfolding merged_book
@@ -292,12 +315,19 @@ module _ {b : LexOutput} {E L : Edit} {RE RL : RegionOutput} {r_e r_l : Span} (m
       ≡ spliced shown_located w_e (spliced shown_located w_l (shown_nodes b) (shown_nodes RL)) (shown_nodes RE)
   unfolding shown_located window_of shifted
   splices_agree =
-      two_orders w_l' (source_carried m.first_e shown_located in_book in_earlier refl place_of (λ n o. span_facts (length RE.sanitized) n.source_span o) (λ n. (refl, refl)) (λ n. (refl, refl)))
-      (source_carried m.first_l shown_located in_book in_later refl place_of (λ n o. span_facts (length RL.sanitized) n.source_span (both (span_ok (length RL.sanitized) n.source_span) _ o).0) (λ n. (refl, refl)) (λ n. (refl, refl)))
-      m.apart start_moves end_moves twice again (shown_nodes b) (shown_nodes RE) (shown_nodes RL) all_in_book all_in_earlier all_in_later
+      two_orders_wide w_l' shown_e.carried shown_l.carried m.apart start_moves end_moves twice again shown_e.wide shown_e.wide_read shown_l.wide_read
+      (shown_nodes b) (shown_nodes RE) (shown_nodes RL) all_in_book all_in_earlier all_in_later
     where
       place_of : (n : ShownNode) → in_book n ≡ true → (n.source_span.start < n.source_span.end) × (n.source_span.end ≤ length b.sanitized)
       place_of n o = span_facts (length b.sanitized) n.source_span (both (span_ok (length b.sanitized) n.source_span) _ o).0
+
+      shown_e : CarriedWide shown_located w_e in_book in_earlier (length RE.sanitized) p_e q_e
+      shown_e = source_wide m.first_e shown_located in_book in_earlier refl (λ n. (refl, refl)) (λ n. (refl, refl)) place_of (λ n o. span_facts (length RE.sanitized) n.source_span o)
+
+      shown_l : CarriedWide shown_located w_l in_book in_later (length RL.sanitized) (p m.first_l) (q m.first_l)
+      shown_l =
+          source_wide m.first_l shown_located in_book in_later refl (λ n. (refl, refl)) (λ n. (refl, refl)) place_of
+          (λ n o. span_facts (length RL.sanitized) n.source_span (both (span_ok (length RL.sanitized) n.source_span) _ o).0)
 
       twice : (n : ShownNode) → in_book n ≡ true → r_l.end ≤ n.source_span.start
           → shown_located.moved w_l' (shown_located.moved w_e n) ≡ shown_located.moved w_e (shown_located.moved w_l n)

@@ -10,7 +10,7 @@ use Rattle.std.proofs.Math.Dec.{ltb}
 use borrow.Author.Tests.{ltb-true, lt-ltb}
 use Rattle.model.specs.Lists.{all, is_empty}
 use Rattle.model.specs.Limits.{max_text}
-use Rattle.model.specs.Utf8.{utf8, is_char_boundary}
+use Rattle.model.specs.Utf8.{is_char_boundary}
 use Rattle.model.specs.Offset.{Span, shifted}
 use Rattle.model.specs.Types.{Layer, SourceNode, PairLink, ContainerPair, Diagnostic, LexOutput, RegionOutput}
 use Rattle.model.specs.Refusal.{Checked.accepted}
@@ -18,7 +18,7 @@ use Rattle.model.specs.Tape.{body_operands, body_values, node_codec, pair_codec,
 use Rattle.model.specs.WellFormed.{texts_are_utf8, node_ok, ids_ok, levels_ok, container_ok, check_book}
 use Rattle.model.specs.Graft.{layer_of}
 use Rattle.model.specs.Region.{Edit, edited}
-use Rattle.model.specs.Merge.{MergeWindow, IncrementalOutput, window_of, normalized_offset, moved_offset, cuts_ok, spliced, node_located, shifted_pair, pair_located, container_located, shifted_diagnostic, diagnostic_located, merged_normalized, grafted, merged_layers, merged_book, stored_book, answer}
+use Rattle.model.specs.Merge.{MergeWindow, IncrementalOutput, window_of, moved_offset, cuts_ok, spliced, node_located, shifted_pair, pair_located, container_located, shifted_diagnostic, diagnostic_located, merged_normalized, grafted, merged_layers, merged_book, stored_book, answer}
 use Rattle.laws.specs.Lists.{both, all_and}
 use Rattle.laws.specs.Checks.{WellFormed, checked_again, utf8_facts, id_facts, merged_of}
 use Rattle.laws.specs.Fits.{is_word, operands_fit, record_fits, fits}

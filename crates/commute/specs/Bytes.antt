@@ -1,11 +1,10 @@
 -- Why demand 3 says that tapes and buffers are bytes: without it the statement is false. The definitions speak of lists of
 -- numbers. A reading whose tape has the number 256 in the last byte of a code rank holds a rank of 2 ^ 32, which a merge sorts
 -- by and then writes as 0; the next merge sorts by 0.
-use Rattle.std.specs.Prelude.{◌≡◌, refl, ℕ, ◌≤◌, List, [], ◌∷◌, ◌++◌}
+use Rattle.std.specs.Prelude.{◌≡◌, refl, ℕ, List, [], ◌∷◌, ◌++◌}
 use Rattle.std.proofs.Common.{sym, ap, ◌∙◌, arith}
 use Rattle.model.specs.Lists.{ascii}
 use Rattle.model.specs.Bytes.{word_bytes}
-use Rattle.model.specs.Offset.{Span}
 use Rattle.model.specs.Intern.{no_stats}
 use Rattle.model.specs.Types.{Diagnostic, LexOutput}
 use Rattle.model.specs.Refusal.{Checked, Checked.refused, Checked.accepted}

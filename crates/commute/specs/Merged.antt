@@ -14,8 +14,8 @@ use borrow.Author.Tests.{leb-true, ltb-true, ltb-false, not-true, le-ltb, lt-ltb
 use Rattle.model.specs.Lists.{any, keep}
 use Rattle.model.specs.Limits.{max_text}
 use Rattle.model.specs.Offset.{Span, shift_clamp, shifted, shift_u32}
-use Rattle.model.specs.Types.{SourceNode, PairLink, Diagnostic, LexOutput, RegionOutput}
-use Rattle.model.specs.WellFormed.{span_ok, pair_ok, container_ok}
+use Rattle.model.specs.Types.{SourceNode, PairLink, LexOutput, RegionOutput}
+use Rattle.model.specs.WellFormed.{pair_ok, container_ok, diagnostic_ok}
 use Rattle.model.specs.Region.{Edit, edited, behind_edit, depth, is_block_open, is_block_close, is_warichu_open, is_warichu_close, nodes_before, nodes_allow_cut, pairs_allow_cut}
 use Rattle.model.specs.Merge.{MergeWindow, change_in_length, window_of, normalized_offset, moved_offset, Located, kept_before, kept_behind, spliced, node_located, shifted_pair, pair_located, container_located, shifted_diagnostic, diagnostic_located, balanced_nodes, grafted, merged_book}
 use Rattle.laws.specs.Lists.{both}
@@ -23,8 +23,8 @@ use Rattle.laws.specs.Keep.{keep_append, keep_all, all_kept, any_all, same_le}
 use Rattle.laws.specs.Checks.{merged_of}
 use Rattle.laws.specs.Shift.{shift_up, shift_by, offset_by, shift_answers}
 use Rattle.laws.specs.Splice.{splice_length, byte_front, byte_rest}
-use Rattle.laws.specs.Located.{start_of, end_of, Carried, keep_front, keep_rest, across_front, across_rest}
-use Rattle.laws.specs.Nodes.{Sound, span_facts, pair_facts, container_facts, ends_by, starts_at, node_in, across_node, SafeCut, before_split, split, normal_rises, depth_append, depth_map}
+use Rattle.laws.specs.Located.{start_of, end_of, Carried, CarriedWide, keep_front, keep_rest, across_front, across_rest}
+use Rattle.laws.specs.Nodes.{Sound, span_facts, diagnostic_facts, pair_facts, container_facts, ends_by, starts_at, node_in, across_node, SafeCut, before_split, split, normal_rises, depth_append, depth_map}
 use Rattle.commute.specs.Cut.{SameBehind}
 use Rattle.commute.specs.Outline.{GraftedNodes, grafted_nodes}
 
@@ -105,61 +105,73 @@ module _ {old : LexOutput} {e : Edit} {reading : RegionOutput} {r : Span} (f : F
   -- ---- the four kinds
 
   -- a kind that is measured in the text
-  pub source_carried : {A : Type 0} (l : Located A) (ok okR : A → Bool) → l.window w ≡ r
-      → ((x : A) → ok x ≡ true → (start_of l x < end_of l x) × (end_of l x ≤ length old.sanitized))
-      → ((x : A) → okR x ≡ true → (start_of l x < end_of l x) × (end_of l x ≤ length reading.sanitized))
-      → ((x : A) → (start_of l (l.placed w x) ≡ shift_clamp (start_of l x) (pos r.start)) × (end_of l (l.placed w x) ≡ shift_clamp (end_of l x) (pos r.start)))
-      → ((x : A) → (start_of l (l.moved w x) ≡ shift_clamp (start_of l x) (change_in_length e)) × (end_of l (l.moved w x) ≡ shift_clamp (end_of l x) (change_in_length e)))
-      → Carried l w ok okR (length reading.sanitized) p q
-  source_carried {A} l ok okR at i j placed moved =
-      let s = ap (λ (x : Span). x.start) at in
-      let t = ap (λ (x : Span). x.end) at in
-      record {
-        rising = omega (arith, region_rises);
-        sizes = omega arith;
-        some = λ x o. (i x o).0;
-        some_read = λ x o. (j x o).0;
-        inside = λ x o. (j x o).1;
-        moved_start = λ x o h. ap (λ (k : ℕ). k + q) (moved x).0 ∙ moved_sum (start_of l x) (omega arith) (omega (arith, (i x o).0, (i x o).1));
-        moved_end = λ x o h. ap (λ (k : ℕ). k + q) (moved x).1 ∙ moved_sum (end_of l x) (omega (arith, (i x o).0)) (i x o).1;
-        placed_start = λ x o. (placed x).0 ∙ placed_number (start_of l x) (omega (arith, (j x o).0, (j x o).1)) ∙ ap (λ (k : ℕ). start_of l x + k) (sym s);
-        placed_end = λ x o. (placed x).1 ∙ placed_number (end_of l x) (j x o).1 ∙ ap (λ (k : ℕ). end_of l x + k) (sym s);
-      }
+  module _ {A : Type 0} (l : Located A) (ok okR : A → Bool) (at : l.window w ≡ r)
+      (placed : (x : A) → (start_of l (l.placed w x) ≡ shift_clamp (start_of l x) (pos r.start)) × (end_of l (l.placed w x) ≡ shift_clamp (end_of l x) (pos r.start)))
+      (moved : (x : A) → (start_of l (l.moved w x) ≡ shift_clamp (start_of l x) (change_in_length e)) × (end_of l (l.moved w x) ≡ shift_clamp (end_of l x) (change_in_length e))) where
+    pub source_carried : ((x : A) → ok x ≡ true → (start_of l x ≤ end_of l x) × (end_of l x ≤ length old.sanitized))
+        → ((x : A) → okR x ≡ true → (start_of l x ≤ end_of l x) × (end_of l x ≤ length reading.sanitized))
+        → Carried l w ok okR (length reading.sanitized) p q
+    source_carried i j =
+        let s = ap (λ (x : Span). x.start) at in
+        let t = ap (λ (x : Span). x.end) at in
+        record {
+          rising = omega (arith, region_rises);
+          sizes = omega arith;
+          inside = λ x o. (j x o).1;
+          moved_start = λ x o h. ap (λ (k : ℕ). k + q) (moved x).0 ∙ moved_sum (start_of l x) (omega arith) (omega (arith, (i x o).0, (i x o).1));
+          moved_end = λ x o h. ap (λ (k : ℕ). k + q) (moved x).1 ∙ moved_sum (end_of l x) (omega (arith, (i x o).0)) (i x o).1;
+          placed_start = λ x o. (placed x).0 ∙ placed_number (start_of l x) (omega (arith, (j x o).0, (j x o).1)) ∙ ap (λ (k : ℕ). start_of l x + k) (sym s);
+          placed_end = λ x o. (placed x).1 ∙ placed_number (end_of l x) (j x o).1 ∙ ap (λ (k : ℕ). end_of l x + k) (sym s);
+        }
 
-  pub nodes_carried : Carried node_located w (node_in (length old.sanitized)) (node_in (length reading.sanitized)) (length reading.sanitized) p q
+    -- whose elements are not empty
+    pub source_wide : ((x : A) → ok x ≡ true → (start_of l x < end_of l x) × (end_of l x ≤ length old.sanitized))
+        → ((x : A) → okR x ≡ true → (start_of l x < end_of l x) × (end_of l x ≤ length reading.sanitized))
+        → CarriedWide l w ok okR (length reading.sanitized) p q
+    source_wide i j = record {
+      carried = source_carried (λ x o. (omega (arith, (i x o).0), (i x o).1)) (λ x o. (omega (arith, (j x o).0), (j x o).1));
+      wide = λ x o. (i x o).0;
+      wide_read = λ x o. (j x o).0;
+    }
+
+  pub nodes_wide : CarriedWide node_located w (node_in (length old.sanitized)) (node_in (length reading.sanitized)) (length reading.sanitized) p q
   unfolding node_located window_of shifted
-  nodes_carried =
-      source_carried node_located (node_in (length old.sanitized)) (node_in (length reading.sanitized)) refl
-      (λ n o. span_facts (length old.sanitized) n.source_span o) (λ n o. span_facts (length reading.sanitized) n.source_span o) (λ n. (refl, refl)) (λ n. (refl, refl))
+  nodes_wide =
+      source_wide node_located (node_in (length old.sanitized)) (node_in (length reading.sanitized)) refl (λ n. (refl, refl)) (λ n. (refl, refl))
+      (λ n o. span_facts (length old.sanitized) n.source_span o) (λ n o. span_facts (length reading.sanitized) n.source_span o)
 
-  pub diagnostics_carried : Carried diagnostic_located w (λ (d : Diagnostic). span_ok (length old.sanitized) d.span) (λ (d : Diagnostic). span_ok (length reading.sanitized) d.span) (length reading.sanitized) p q
+  pub diagnostics_carried : Carried diagnostic_located w (diagnostic_ok (length old.sanitized)) (diagnostic_ok (length reading.sanitized)) (length reading.sanitized) p q
   unfolding diagnostic_located shifted_diagnostic window_of shifted
   diagnostics_carried =
-      source_carried diagnostic_located (λ (d : Diagnostic). span_ok (length old.sanitized) d.span) (λ (d : Diagnostic). span_ok (length reading.sanitized) d.span) refl
-      (λ d o. span_facts (length old.sanitized) d.span o) (λ d o. span_facts (length reading.sanitized) d.span o) (λ d. (refl, refl)) (λ d. (refl, refl))
+      source_carried diagnostic_located (diagnostic_ok (length old.sanitized)) (diagnostic_ok (length reading.sanitized)) refl (λ d. (refl, refl)) (λ d. (refl, refl))
+      (diagnostic_facts (length old.sanitized)) (diagnostic_facts (length reading.sanitized))
 
-  pub pairs_carried : Carried pair_located w (pair_ok (length old.sanitized)) (pair_ok (length reading.sanitized)) (length reading.sanitized) p q
+  pub pairs_wide : CarriedWide pair_located w (pair_ok (length old.sanitized)) (pair_ok (length reading.sanitized)) (length reading.sanitized) p q
   unfolding pair_located shifted_pair window_of shifted
-  pairs_carried = source_carried pair_located (pair_ok (length old.sanitized)) (pair_ok (length reading.sanitized)) refl (outer (length old.sanitized)) (outer (length reading.sanitized)) (λ p. (refl, refl)) (λ p. (refl, refl))
+  pairs_wide =
+      source_wide pair_located (pair_ok (length old.sanitized)) (pair_ok (length reading.sanitized)) refl (λ p. (refl, refl)) (λ p. (refl, refl))
+      (outer (length old.sanitized)) (outer (length reading.sanitized))
     where
       outer : (size : ℕ) (x : PairLink) → pair_ok size x ≡ true → (x.opening.start < x.closing.end) × (x.closing.end ≤ size)
       outer size x o = let g = pair_facts size x o in (omega (arith, g.opens, g.apart, g.closes), g.inside)
 
-  pub containers_carried : Carried container_located w (container_ok (length old.normalized)) (container_ok (length reading.normalized)) (length reading.normalized) (length reading.normalized + start_n) end_n
+  pub containers_wide : CarriedWide container_located w (container_ok (length old.normalized)) (container_ok (length reading.normalized)) (length reading.normalized) (length reading.normalized + start_n) end_n
   unfolding container_located window_of
-  containers_carried = record {
-    rising = normal_region_rises;
-    sizes = omega arith;
-    some = λ x o. omega (arith, (container_facts (length old.normalized) x o).0);
-    some_read = λ x o. omega (arith, (container_facts (length reading.normalized) x o).0);
-    inside = λ x o. omega (arith, (container_facts (length reading.normalized) x o).1);
-    moved_start = λ x o h. let g = container_facts (length old.normalized) x o in offset_sum x.opening h (omega (arith, g.0, g.1, f.old_sound.normalized));
-    moved_end = λ x o h.
-        let g = container_facts (length old.normalized) x o in
-        let y = offset_sum x.closing (omega (arith, g.0, h)) (omega (arith, g.1, f.old_sound.normalized)) in
-        omega arith;
-    placed_start = λ x o. refl;
-    placed_end = λ x o. omega arith;
+  containers_wide = record {
+    carried = record {
+      rising = normal_region_rises;
+      sizes = omega arith;
+      inside = λ x o. omega (arith, (container_facts (length reading.normalized) x o).1);
+      moved_start = λ x o h. let g = container_facts (length old.normalized) x o in offset_sum x.opening h (omega (arith, g.0, g.1, f.old_sound.normalized));
+      moved_end = λ x o h.
+          let g = container_facts (length old.normalized) x o in
+          let y = offset_sum x.closing (omega (arith, g.0, h)) (omega (arith, g.1, f.old_sound.normalized)) in
+          omega arith;
+      placed_start = λ x o. refl;
+      placed_end = λ x o. omega arith;
+    };
+    wide = λ x o. omega (arith, (container_facts (length old.normalized) x o).0);
+    wide_read = λ x o. omega (arith, (container_facts (length reading.normalized) x o).0);
   }
 
   -- ---- up to the region's start
@@ -176,8 +188,8 @@ module _ {old : LexOutput} {e : Edit} {reading : RegionOutput} {r : Span} (f : F
   unfolding nodes_allow_cut nodes_before merged_book node_located window_of
   nodes_before_lem o h =
       let in_old = f.old_sound.places.source_spans in
-      let x = across_front nodes_carried old.source_nodes (grafted old reading).0 in_old new_nodes.inside o h f.start_safe.nodes in
-      let y = keep_front nodes_carried old.source_nodes (grafted old reading).0 in_old new_nodes.inside
+      let x = across_front nodes_wide old.source_nodes (grafted old reading).0 in_old new_nodes.inside o h f.start_safe.nodes in
+      let y = keep_front nodes_wide old.source_nodes (grafted old reading).0 in_old new_nodes.inside
       (λ n. ltb n.source_span.start o) (λ n. not (across_node r.start n)) fails ends (any_all (across_node r.start) old.source_nodes f.start_safe.nodes) in
       ap₂ (λ (s : Bool) (ns : List SourceNode). not s && eqb (depth is_block_open is_block_close 0 ns) 0 && eqb (depth is_warichu_open is_warichu_close 0 ns) 0) x y
     where
@@ -193,7 +205,7 @@ module _ {old : LexOutput} {e : Edit} {reading : RegionOutput} {r : Span} (f : F
   pub pairs_before_lem : (o : ℕ) → o ≤ r.start → pairs_allow_cut (merged_of old e reading r).pairs o ≡ pairs_allow_cut old.pairs o
   unfolding pairs_allow_cut merged_book pair_located window_of
   pairs_before_lem o h =
-      ap not (across_front pairs_carried old.pairs reading.pairs f.old_sound.places.pairs f.reading_sound.places.pairs o h f.start_safe.pairs)
+      ap not (across_front pairs_wide old.pairs reading.pairs f.old_sound.places.pairs f.reading_sound.places.pairs o h f.start_safe.pairs)
 
   -- ---- behind its end
 
@@ -214,7 +226,7 @@ module _ {old : LexOutput} {e : Edit} {reading : RegionOutput} {r : Span} (f : F
   pairs_behind_lem : (k : ℕ) → pairs_allow_cut (merged_of old e reading r).pairs (end' + suc k) ≡ pairs_allow_cut old.pairs (r.end + suc k)
   unfolding pairs_allow_cut merged_book pair_located window_of
   pairs_behind_lem k =
-      ap not (across_rest pairs_carried old.pairs reading.pairs f.old_sound.places.pairs f.reading_sound.places.pairs k f.end_safe.pairs)
+      ap not (across_rest pairs_wide old.pairs reading.pairs f.old_sound.places.pairs f.reading_sound.places.pairs k f.end_safe.pairs)
 
   -- the depth at a cut behind the region is that of the nodes between
   module _ (opens closes : SourceNode → Bool) (moved : (n : SourceNode) → (opens (node_located.moved w n) ≡ opens n) × (closes (node_located.moved w n) ≡ closes n))
@@ -233,7 +245,7 @@ module _ {old : LexOutput} {e : Edit} {reading : RegionOutput} {r : Span} (f : F
         let G = map (node_located.placed w) (grafted old reading).0 in
         let M = map (node_located.moved w) (keep t behind) in
         let new : keep t' (spliced node_located w old.source_nodes (grafted old reading).0) ≡ front ++ (G ++ M) =
-        keep_rest nodes_carried old.source_nodes (grafted old reading).0 in_old new_nodes.inside t t'
+        keep_rest nodes_wide old.source_nodes (grafted old reading).0 in_old new_nodes.inside t t'
         (λ n g h. lt-ltb n.source_span.start (end' + suc k) (omega arith)) in_moved in
         let kept : keep t old.source_nodes ≡ until ++ keep t behind =
         ap (keep t) (split f.old_sound f.end_safe) ∙ keep_append t until behind
@@ -249,7 +261,7 @@ module _ {old : LexOutput} {e : Edit} {reading : RegionOutput} {r : Span} (f : F
       where
         in_moved : (n : SourceNode) → node_in (length old.sanitized) n ≡ true → r.end ≤ n.source_span.start → ltb (node_located.moved w n).source_span.start (end' + suc k) ≡ ltb n.source_span.start (r.end + suc k)
         in_moved n o h =
-            let m = nodes_carried.moved_start n o h in
+            let m = nodes_wide.carried.moved_start n o h in
             same_le (suc (node_located.moved w n).source_span.start) (end' + suc k) (suc n.source_span.start) (r.end + suc k) (omega arith) (omega arith)
 
         in_until : (n : SourceNode) → node_in (length old.sanitized) n && ends_by r.end n ≡ true → ltb n.source_span.start (r.end + suc k) ≡ true
@@ -262,7 +274,7 @@ module _ {old : LexOutput} {e : Edit} {reading : RegionOutput} {r : Span} (f : F
   nodes_behind_lem : (k : ℕ) → r.end < length old.sanitized → nodes_allow_cut (merged_of old e reading r).source_nodes (end' + suc k) ≡ nodes_allow_cut old.source_nodes (r.end + suc k)
   unfolding nodes_allow_cut merged_book node_located window_of
   nodes_behind_lem k inner =
-      let x = across_rest nodes_carried old.source_nodes (grafted old reading).0 f.old_sound.places.source_spans new_nodes.inside k f.end_safe.nodes in
+      let x = across_rest nodes_wide old.source_nodes (grafted old reading).0 f.old_sound.places.source_spans new_nodes.inside k f.end_safe.nodes in
       let y = depth_behind_lem is_block_open is_block_close (λ n. (refl, refl)) (λ n. (refl, refl)) (f.start_safe.blocks (omega arith)) (f.end_safe.blocks inner) new_nodes.blocks k in
       let z = depth_behind_lem is_warichu_open is_warichu_close (λ n. (refl, refl)) (λ n. (refl, refl)) (f.start_safe.warichu (omega arith)) (f.end_safe.warichu inner) new_nodes.warichu k in
       ap₂ (λ (s : Bool) (d : ℕ). not s && eqb d 0 && eqb (depth is_warichu_open is_warichu_close 0 (nodes_before (end' + suc k) (merged_of old e reading r).source_nodes)) 0) x y

@@ -10,8 +10,8 @@ use Rattle.std.proofs.Math.ListN.{length}
 use borrow.Author.Tests.{leb-true, ltb-true, le-leb, lt-leb, eq-eqb}
 use Rattle.model.specs.Lists.{all, keep}
 use Rattle.model.specs.Offset.{Span, shifted, shift_u32}
-use Rattle.model.specs.Types.{SourceNode, PairLink, ContainerPair, Diagnostic, LexOutput, RegionOutput}
-use Rattle.model.specs.WellFormed.{span_ok, ordered, offsets_ok, standalone_padding, image_length, pair_ok, container_ok, places_ok, images, spans, normalized_length_ok}
+use Rattle.model.specs.Types.{SourceNode, PairLink, ContainerPair, LexOutput, RegionOutput}
+use Rattle.model.specs.WellFormed.{ordered, offsets_ok, standalone_padding, image_length, pair_ok, container_ok, diagnostic_ok, places_ok, images, spans, normalized_length_ok}
 use Rattle.model.specs.Region.{Edit}
 use Rattle.model.specs.Merge.{MergeWindow, window_of, normalized_offset, kept_before, kept_behind, spliced, node_located, shifted_pair, pair_located, container_located, diagnostic_located, merged_normalized, grafted, merged_book}
 use Rattle.laws.specs.Lists.{both, join, all_and, all_keep, all_map}
@@ -20,8 +20,8 @@ use Rattle.laws.specs.Checks.{merged_of}
 use Rattle.laws.specs.Splice.{splice_length}
 use Rattle.laws.specs.Sort.{all_sort_is}
 use Rattle.laws.specs.Located.{spliced_all, keep_front, keep_rest}
-use Rattle.laws.specs.Nodes.{Sound, span_facts, span_ok_lem, pair_facts, pair_ok_lem, container_facts, container_ok_lem, ends_by, starts_at, node_in, images_append, spans_append, ordered_keep, ordered_join, normal_sum, offsets_append, split, behind_ordered, offsets_split, normal_at, normal_behind, normal_inside, offsets_behind, offsets_small, NodeShift, shift_spans, shift_images, shift_ordered, shift_offsets}
-use Rattle.commute.specs.Merged.{Fit, new_nodes, p, q, start_n, end_n, moved_sum, placed_number, length_sum, normal_region_rises, offset_sum, offset_answers, nodes_carried, diagnostics_carried, containers_carried}
+use Rattle.laws.specs.Nodes.{Sound, span_facts, span_ok_lem, pair_facts, pair_ok_lem, container_facts, container_ok_lem, diagnostic_facts, diagnostic_ok_lem, ends_by, starts_at, node_in, images_append, spans_append, ordered_keep, ordered_join, normal_sum, offsets_append, split, behind_ordered, offsets_split, normal_at, normal_behind, normal_inside, offsets_behind, offsets_small, NodeShift, shift_spans, shift_images, shift_ordered, shift_offsets}
+use Rattle.commute.specs.Merged.{Fit, new_nodes, p, q, start_n, end_n, moved_sum, placed_number, length_sum, normal_region_rises, offset_sum, offset_answers, nodes_wide, diagnostics_carried, containers_wide}
 
 abbrev is_some : Option ℕ → Bool
 is_some none = false
@@ -69,7 +69,7 @@ module _ {old : LexOutput} {e : Edit} {reading : RegionOutput} {r : Span} (f : F
   placed_shift : (n : SourceNode) → in_read n ≡ true → NodeShift (node_located.placed win) 0 r.start 0 s₀ n
   unfolding node_located window_of image_length standalone_padding
   placed_shift n o =
-      let c = nodes_carried f in
+      let c = (nodes_wide f).carried in
       record { start = omega (arith, c.placed_start n o); end = omega (arith, c.placed_end n o); offset = omega arith; image = refl }
 
   -- a node behind the region, with its offset
@@ -87,7 +87,7 @@ module _ {old : LexOutput} {e : Edit} {reading : RegionOutput} {r : Span} (f : F
   moved_shift : (n : SourceNode) → movable n ≡ true → NodeShift (node_located.moved win) qw pw s₁ (length reading.normalized + s₀) n
   unfolding node_located window_of image_length standalone_padding
   moved_shift n o =
-      let c = nodes_carried f in
+      let c = (nodes_wide f).carried in
       let u = both (in_old n && starts_at r.end n) _ o in
       let v = both (in_old n) (starts_at r.end n) u.0 in
       let z = both (leb s₁ n.normalized_offset) (ltb n.normalized_offset (length old.normalized)) u.1 in
@@ -134,16 +134,16 @@ module _ {old : LexOutput} {e : Edit} {reading : RegionOutput} {r : Span} (f : F
   pub normal_before : (c : ℕ) → c ≤ r.start → normalized_offset new.source_nodes c ≡ normalized_offset old.source_nodes c
   unfolding normalized_offset merged_book node_located window_of
   normal_before c h =
-      rw (keep_front (nodes_carried f) old.source_nodes (grafted old reading).0 f.old_sound.places.source_spans (new_nodes f).inside
+      rw (keep_front (nodes_wide f) old.source_nodes (grafted old reading).0 f.old_sound.places.source_spans (new_nodes f).inside
       (ends_by c) (λ n. true) (λ n k g. lt-leb n.source_span.end c (omega arith)) (λ n k t. let x = leb-true n.source_span.end c t in omega arith) (all_true old.source_nodes))
 
   -- behind it
   taken : (c c' : ℕ) → r.end ≤ c → c' + qw ≡ c + pw → keep (ends_by c') new.source_nodes ≡ front ++ (placed ++ map (node_located.moved win) (keep (ends_by c) behind))
   unfolding merged_book node_located window_of kept_before kept_behind
   taken c c' h g =
-      keep_rest (nodes_carried f) old.source_nodes (grafted old reading).0 f.old_sound.places.source_spans (new_nodes f).inside
+      keep_rest (nodes_wide f) old.source_nodes (grafted old reading).0 f.old_sound.places.source_spans (new_nodes f).inside
       (ends_by c) (ends_by c') (λ n k l. let z = f.size in le-leb n.source_span.end c' (omega arith))
-      (λ n o k. let z = (nodes_carried f).moved_end n o k in same_le (node_located.moved win n).source_span.end c' n.source_span.end c (omega arith) (omega arith))
+      (λ n o k. let z = (nodes_wide f).carried.moved_end n o k in same_le (node_located.moved win n).source_span.end c' n.source_span.end c (omega arith) (omega arith))
 
   pub normal_moves : Sound new → (c c' : ℕ) → r.end ≤ c → c' + qw ≡ c + pw → normalized_offset new.source_nodes c' + s₁ ≡ normalized_offset old.source_nodes c + (length reading.normalized + s₀)
   normal_moves sound c c' h g =
@@ -186,19 +186,21 @@ module _ {old : LexOutput} {e : Edit} {reading : RegionOutput} {r : Span} (f : F
   nodes_in : all (node_in (length new.sanitized)) new.source_nodes ≡ true
   unfolding merged_book node_located window_of
   nodes_in =
-      let c = nodes_carried f in
+      let c = (nodes_wide f).carried in
+      let wide = (nodes_wide f).wide in
+      let wide_read = (nodes_wide f).wide_read in
       let size = length new.sanitized in
       spliced_all node_located win in_old in_read (node_in size)
-      (λ n o h. span_ok_lem size n.source_span (c.some n o) (omega (arith, grown)))
-      (λ n o. span_ok_lem size (node_located.placed win n).source_span (omega (arith, c.some_read n o, c.placed_start n o, c.placed_end n o)) (omega (arith, grown, c.inside n o, c.placed_end n o)))
-      (λ n o h. span_ok_lem size (node_located.moved win n).source_span (omega (arith, c.some n o, c.moved_start n o h, c.moved_end n o h))
+      (λ n o h. span_ok_lem size n.source_span (wide n o) (omega (arith, grown)))
+      (λ n o. span_ok_lem size (node_located.placed win n).source_span (omega (arith, wide_read n o, c.placed_start n o, c.placed_end n o)) (omega (arith, grown, c.inside n o, c.placed_end n o)))
+      (λ n o h. span_ok_lem size (node_located.moved win n).source_span (omega (arith, wide n o, c.moved_start n o h, c.moved_end n o h))
       (omega (arith, length_sum f, c.moved_end n o h, (span_facts (length old.sanitized) n.source_span o).1)))
       old.source_nodes (grafted old reading).0 f.old_sound.places.source_spans (new_nodes f).inside
 
   placed_ends : all (ends_by new_end) placed ≡ true
   unfolding node_located window_of
   placed_ends =
-      let c = nodes_carried f in
+      let c = (nodes_wide f).carried in
       all_map_is (ends_by new_end) (node_located.placed win) (grafted old reading).0
       ∙ all_map in_read (λ n. ends_by new_end (node_located.placed win n)) (λ n o. le-leb (node_located.placed win n).source_span.end new_end (omega (arith, c.inside n o, c.placed_end n o))) (grafted old reading).0 (new_nodes f).inside
 
@@ -273,23 +275,25 @@ module _ {old : LexOutput} {e : Edit} {reading : RegionOutput} {r : Span} (f : F
           let d = moved_sum f x.closing.end (omega arith) g₄ in
           pair_ok_lem (length new.sanitized) (pair_located.moved win x) (record { opens = omega arith; apart = omega arith; closes = omega arith; inside = omega arith })
 
-  diagnostics_in : all (λ (d : Diagnostic). span_ok (length new.sanitized) d.span) new.diagnostics ≡ true
+  diagnostics_in : all (diagnostic_ok (length new.sanitized)) new.diagnostics ≡ true
   unfolding merged_book diagnostic_located window_of
   diagnostics_in =
       let c = diagnostics_carried f in
       let size = length new.sanitized in
-      let ok' : Diagnostic → Bool = λ d. span_ok size d.span in
-      all_sort_is ok' (spliced diagnostic_located win old.diagnostics reading.diagnostics)
-      ∙ (spliced_all diagnostic_located win (λ d. span_ok (length old.sanitized) d.span) (λ d. span_ok (length reading.sanitized) d.span) ok'
-      (λ d o h. span_ok_lem size d.span (c.some d o) (omega (arith, grown)))
-      (λ d o. span_ok_lem size (diagnostic_located.placed win d).span (omega (arith, c.some_read d o, c.placed_start d o, c.placed_end d o)) (omega (arith, grown, c.inside d o, c.placed_end d o)))
-      (λ d o h. span_ok_lem size (diagnostic_located.moved win d).span (omega (arith, c.some d o, c.moved_start d o h, c.moved_end d o h)) (omega (arith, length_sum f, c.moved_end d o h, (span_facts (length old.sanitized) d.span o).1)))
+      let N = length old.sanitized in
+      let R = length reading.sanitized in
+      all_sort_is (diagnostic_ok size) (spliced diagnostic_located win old.diagnostics reading.diagnostics)
+      ∙ (spliced_all diagnostic_located win (diagnostic_ok N) (diagnostic_ok R) (diagnostic_ok size)
+      (λ d o h. diagnostic_ok_lem size d (diagnostic_facts N d o).0 (omega (arith, grown)))
+      (λ d o. diagnostic_ok_lem size (diagnostic_located.placed win d) (omega (arith, (diagnostic_facts R d o).0, c.placed_start d o, c.placed_end d o)) (omega (arith, grown, c.inside d o, c.placed_end d o)))
+      (λ d o h. diagnostic_ok_lem size (diagnostic_located.moved win d) (omega (arith, (diagnostic_facts N d o).0, c.moved_start d o h, c.moved_end d o h))
+      (omega (arith, length_sum f, c.moved_end d o h, (diagnostic_facts N d o).1)))
       old.diagnostics reading.diagnostics f.old_sound.places.diagnostics f.reading_sound.places.diagnostics)
 
   containers_in : all (container_ok (length new.normalized)) new.container_pairs ≡ true
   unfolding merged_book container_located window_of
   containers_in =
-      let c = containers_carried f in
+      let c = (containers_wide f).carried in
       let size = length new.normalized in
       let z = normal_length in
       let y = normal_inside f.old_sound f.end_safe f.inside in

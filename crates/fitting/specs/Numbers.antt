@@ -1,5 +1,5 @@
 -- Numbers 12 to 17, by the first condition that holds, for each return of the code.
-use Rattle.std.specs.Prelude.{◌≡◌, ℕ, Bool, true, false, cond, not, ◌&&◌, length}
+use Rattle.std.specs.Prelude.{◌≡◌, ℕ, Bool, true, false, cond, not, ◌&&◌, ◌||◌, length}
 use Rattle.std.proofs.Math.Path.{refl, sym}
 use Rattle.std.proofs.Common.{◌∙◌, arith}
 use Rattle.std.proofs.Math.Dec.{leb}
@@ -9,7 +9,8 @@ use Rattle.model.specs.Offset.{Span}
 use Rattle.model.specs.Types.{LexOutput, RegionOutput}
 use Rattle.model.specs.Refusal.{Checked.refused, ◌>>=◌, refuse◌if◌}
 use Rattle.model.specs.Region.{Edit}
-use Rattle.model.specs.Merge.{new_region_text, balanced_nodes, is_unclosed, introduces_ruby_format_dependency, window_of, cuts_ok, fitting}
+use Rattle.model.specs.Merge.{new_region_text, balanced_nodes, is_unclosed, mark_at_empty_region, introduces_ruby_format_dependency, window_of, cuts_ok, fitting}
+use Rattle.laws.specs.Lists.{neither}
 use Rattle.laws.specs.Checks.{Passed}
 use Rattle.wire.specs.Loops.{by_bool}
 use Rattle.passage.specs.Layers.{layer_missing}
@@ -20,12 +21,16 @@ cut_number old e r reading =
     cond (introduces_ruby_format_dependency old reading r) 15
     (cond (cuts_ok old (window_of old e reading r)) (cond (layer_missing old reading) 17 0) 16)
 
+-- Number 14, of the reading's diagnostics or of the old book's.
+abbrev pub unclosed_or_marked : LexOutput → Span → RegionOutput → Bool
+unclosed_or_marked old r reading = any is_unclosed reading.diagnostics || mark_at_empty_region old.diagnostics r
+
 -- the first of 12 to 17 that holds, or 0
 unfoldable pub reading_number : LexOutput → Edit → Span → RegionOutput → ℕ
 reading_number old e r reading =
     cond (same reading.sanitized (new_region_text old e r))
     (cond (balanced_nodes reading.source_nodes)
-    (cond (any is_unclosed reading.diagnostics) 14 (cut_number old e r reading)) 13) 12
+    (cond (unclosed_or_marked old r reading) 14 (cut_number old e r reading)) 13) 12
 
 module _ (old : LexOutput) (e : Edit) (r : Span) (reading : RegionOutput) where
   -- for each return of the code: the tests up to there
@@ -39,7 +44,7 @@ module _ (old : LexOutput) (e : Edit) (r : Span) (reading : RegionOutput) where
       unfolding reading_number
       number_13 h = rw (← f₁, h₁, ← f₂, h) refl
 
-      module _ (h₂ : x₂ ≡ true) {x₃ : Bool} (f₃ : x₃ ≡ any is_unclosed reading.diagnostics) where
+      module _ (h₂ : x₂ ≡ true) {x₃ : Bool} (f₃ : x₃ ≡ unclosed_or_marked old r reading) where
         pub number_14 : x₃ ≡ true → 14 ≡ reading_number old e r reading
         unfolding reading_number
         number_14 h = rw (← f₁, h₁, ← f₂, h₂, ← f₃, h) refl
@@ -78,7 +83,7 @@ module _ (old : LexOutput) (e : Edit) (r : Span) (reading : RegionOutput) where
         (λ x₁.
         by_bool (balanced_nodes reading.source_nodes)
         (λ x₂.
-        by_bool (any is_unclosed reading.diagnostics)
+        by_bool (unclosed_or_marked old r reading)
         (λ x₃. let z : n ≡ 14 = q ∙ rw (x₁, x₂, x₃) refl in rw (x₁, x₂, x₃, z) refl)
         (λ x₃.
         by_bool (introduces_ruby_format_dependency old reading r)
@@ -101,7 +106,7 @@ module _ (old : LexOutput) (e : Edit) (r : Span) (reading : RegionOutput) where
         (λ x₁.
         by_bool (balanced_nodes reading.source_nodes)
         (λ x₂.
-        by_bool (any is_unclosed reading.diagnostics)
+        by_bool (unclosed_or_marked old r reading)
         (λ x₃. absurd (none 14 (λ z. omega (arith, z)) (rw (x₁, x₂, x₃) refl)))
         (λ x₃.
         by_bool (introduces_ruby_format_dependency old reading r)
@@ -111,7 +116,7 @@ module _ (old : LexOutput) (e : Edit) (r : Span) (reading : RegionOutput) where
         (λ x₅.
         by_bool (not (is_empty reading.source_nodes) && leb max_layers (length old.layers))
         (λ x₆. absurd (none 17 (λ z. omega (arith, z)) (rw (x₁, x₂, x₃, x₄, x₅, x₆) refl)))
-        (λ x₆. record { region_text = x₁; balanced = x₂; closed = x₃; independent = x₄; cuts = x₅; layers = x₆ }))
+        (λ x₆. record { region_text = x₁; balanced = x₂; closed = (neither _ _ x₃).0; unmarked = (neither _ _ x₃).1; independent = x₄; cuts = x₅; layers = x₆ }))
         (λ x₅. absurd (none 16 (λ z. omega (arith, z)) (rw (x₁, x₂, x₃, x₄, x₅) refl))))))
         (λ x₂. absurd (none 13 (λ z. omega (arith, z)) (rw (x₁, x₂) refl))))
         (λ x₁. absurd (none 12 (λ z. omega (arith, z)) (rw x₁ refl)))

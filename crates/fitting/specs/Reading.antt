@@ -1,13 +1,13 @@
 -- Numbers 12 to 17 of a reading, by the code's tests on tapes and parts of bytes.
-use Rattle.std.specs.Prelude.{◌≡◌, ℕ, ◌+◌, ◌-◌, ◌*◌, ◌≤◌, Bool, true, false, List, length, take, drop}
-use Rattle.std.proofs.Common.{sym, ap, ◌∙◌, arith}
+use Rattle.std.specs.Prelude.{◌≡◌, ℕ, ◌+◌, ◌-◌, ◌*◌, ◌≤◌, Bool, true, false, ◌||◌, List, length, take, drop}
+use Rattle.std.proofs.Common.{refl, sym, ap, ap₂, ◌∙◌, arith}
 use Rattle.std.proofs.Math.Nat.{sub-zero}
 use Rattle.model.specs.Lists.{any, same}
 use Rattle.model.specs.Offset.{Span}
-use Rattle.model.specs.Types.{LexOutput, RegionOutput}
+use Rattle.model.specs.Types.{Diagnostic, LexOutput, RegionOutput}
 use Rattle.model.specs.Tape.{records_at, node_codec, diagnostic_codec, places, book_at}
 use Rattle.model.specs.Region.{Edit, edited, region_text}
-use Rattle.model.specs.Merge.{new_region_text, balanced_nodes, is_unclosed, introduces_ruby_format_dependency, normalized_offset, window_of, cuts_ok}
+use Rattle.model.specs.Merge.{new_region_text, balanced_nodes, is_unclosed, mark_at_empty_region, introduces_ruby_format_dependency, normalized_offset, window_of, cuts_ok}
 use Rattle.places.specs.declared.Places.{Places}
 use Rattle.store.specs.declared.Store.{Store}
 use Rattle.store.specs.Lengths.{BookLengths, book_lengths}
@@ -17,9 +17,9 @@ use Rattle.bounds.specs.Search.{InOrder}
 use Rattle.passage.specs.Text.{edit_within, region_length, text_book}
 use Rattle.passage.specs.Window.{ends_on_boundaries}
 use Rattle.passage.specs.Layers.{layer_missing, missing_of, missing_book}
-use Rattle.reading.specs.Book.{text_found, normalized_found, balanced_book, unclosed_book, cuts_book}
+use Rattle.reading.specs.Book.{text_found, normalized_found, balanced_book, diagnostics_book, cuts_book}
 use Rattle.region.specs.Held.{Held, held_texts_inside}
-use Rattle.fitting.specs.Numbers.{cut_number, reading_number, number_12, number_13, number_14, number_rest, number_15, number_16, number_17, number_0}
+use Rattle.fitting.specs.Numbers.{cut_number, unclosed_or_marked, reading_number, number_12, number_13, number_14, number_rest, number_15, number_16, number_17, number_0}
 use Rattle.fitting.specs.Stages.{Read}
 use Rattle.fitting.specs.Window.{given_inside}
 
@@ -96,15 +96,18 @@ module _ {t d : List ℕ} {p : Places} {st : Store} {e : Edit} {r : Span} {rt rd
         pub refused_13 : x₂ ≡ false → 13 ≡ reading_number old e r new
         refused_13 = number_13 old e r new twelve h₁ thirteen
 
-        module _ (h₂ : x₂ ≡ true) {x₃ : Bool} (f₃ : x₃ ≡ any is_unclosed (records_at diagnostic_codec rt q.diagnostics.at q.diagnostics.count)) where
-          fourteen : x₃ ≡ any is_unclosed new.diagnostics
-          fourteen = unclosed_book rt rd g.held.is f₃
+        module _ (h₂ : x₂ ≡ true) {x₃ y₃ : Bool} (f₃ : x₃ ≡ any is_unclosed (records_at diagnostic_codec rt q.diagnostics.at q.diagnostics.count))
+            (g₃ : y₃ ≡ mark_at_empty_region (records_at diagnostic_codec t p.diagnostics.at p.diagnostics.count) r) where
+          fourteen : x₃ || y₃ ≡ unclosed_or_marked old r new
+          fourteen =
+              ap₂ (λ (x y : Bool). x || y) (diagnostics_book rt rd g.held.is (any is_unclosed) f₃)
+              (diagnostics_book t d g.given.held.is (λ (ds : List Diagnostic). mark_at_empty_region ds r) g₃)
 
-          pub refused_14 : x₃ ≡ true → 14 ≡ reading_number old e r new
+          pub refused_14 : x₃ || y₃ ≡ true → 14 ≡ reading_number old e r new
           refused_14 = number_14 old e r new twelve h₁ thirteen h₂ fourteen
 
-          pub refused_cut : x₃ ≡ false → {n : ℕ} → n ≡ cut_number old e r new → n ≡ reading_number old e r new
-          refused_cut h₃ = number_rest old e r new twelve h₁ thirteen h₂ fourteen h₃
+          pub refused_cut : x₃ ≡ false → y₃ ≡ false → {n : ℕ} → n ≡ cut_number old e r new → n ≡ reading_number old e r new
+          refused_cut h₃ k₃ = number_rest old e r new twelve h₁ thirteen h₂ fourteen (rw (h₃, k₃) refl)
 
 module _ {t d : List ℕ} {p : Places} {st : Store} (h : Held t d p st) {rt rd : List ℕ} {q : Places} {own : Store} (k : Held rt rd q own) (e : Edit) (r : Span) where
   abbrev book : LexOutput

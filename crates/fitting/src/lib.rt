@@ -220,7 +220,9 @@ fn check_fitting(
     if !reading::balanced_nodes(reading.tape, q.nodes) {
         return Err(Refusal::Unbalanced);
     }
-    if reading::has_unclosed(reading.tape, q.diagnostics) {
+    if reading::has_unclosed(reading.tape, q.diagnostics)
+        || reading::mark_at_empty_region(book.tape, p.diagnostics, w.source)
+    {
         return Err(Refusal::Unclosed);
     }
     check_cuts(book, reading, f, work)

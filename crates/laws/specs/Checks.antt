@@ -1,6 +1,6 @@
 -- What an accepted book, region, reading and merge say, as facts: beside each chain of `refuse n if` its record. A proof about
 -- code or about a merge takes its hypotheses from here and never opens the chains.
-use Rattle.std.specs.Prelude.{◌≡◌, ℕ, ◌+◌, ◌≤◌, Bool, true, false, not, ◌&&◌, List, length, eqb}
+use Rattle.std.specs.Prelude.{◌≡◌, ℕ, ◌+◌, ◌≤◌, Bool, true, false, not, ◌&&◌, ◌||◌, List, length, eqb}
 use Rattle.std.proofs.Math.Path.{refl}
 use Rattle.std.proofs.Common.{sym, ap, ◌∙◌, subst, arith}
 use Rattle.std.proofs.Math.Option.{Option, none, some}
@@ -10,15 +10,14 @@ use Rattle.model.specs.Lists.{all, any, is_empty, same, sum}
 use Rattle.model.specs.Limits.{max_text, max_pool, max_list, max_layers, max_new_strings, min_work_words}
 use Rattle.model.specs.Utf8.{utf8, is_char_boundary}
 use Rattle.model.specs.Offset.{Span}
-use Rattle.model.specs.Types.{Layer, SourceNode, PairLink, ContainerPair, Diagnostic, LexOutput, RegionOutput}
+use Rattle.model.specs.Types.{Layer, SourceNode, LexOutput, RegionOutput}
 use Rattle.model.specs.Refusal.{Checked, Checked.refused, Checked.accepted, ◌>>=◌, refuse◌if◌}
-use Rattle.model.specs.Store.{store_of, string_counts, content_counts, segment_counts}
+use Rattle.model.specs.Store.{string_counts, content_counts, segment_counts}
 use Rattle.model.specs.Tape.{parse}
-use Rattle.model.specs.WellFormed.{texts_are_utf8, within_limits, content_ok, segment_ok, node_ok, ids_ok, level_ok, levels_ok, span_ok, ordered, offsets_ok, pair_ok, container_ok, places_ok, images, spans, normalized_length_ok, laid_out, well_formed, check_book, check_reading}
+use Rattle.model.specs.WellFormed.{texts_are_utf8, within_limits, content_ok, segment_ok, node_ok, ids_ok, levels_ok, span_ok, ordered, offsets_ok, pair_ok, container_ok, diagnostic_ok, places_ok, images, spans, normalized_length_ok, laid_out, well_formed, check_book, check_reading}
 use Rattle.model.specs.Region.{Edit, edited, edit_ok, balanced_region, is_whole, has_ruby_format_dependency, chosen_region}
-use Rattle.model.specs.Graft.{With}
-use Rattle.model.specs.Merge.{Stored, Room, IncrementalOutput, window_of, new_region_text, balanced_nodes, is_unclosed, introduces_ruby_format_dependency, cuts_ok, grafted, merged_book, answer, fits_room, result_ok, fitting, result_checked, merge_books, merge, MergeWindow}
-use Rattle.laws.specs.Lists.{both, same_eq}
+use Rattle.model.specs.Merge.{Stored, Room, IncrementalOutput, window_of, new_region_text, balanced_nodes, is_unclosed, mark_at_empty_region, introduces_ruby_format_dependency, cuts_ok, grafted, merged_book, answer, fits_room, result_ok, fitting, result_checked, merge_books, merge, MergeWindow}
+use Rattle.laws.specs.Lists.{both, neither, same_eq}
 
 -- ---- steps of a chain
 
@@ -144,12 +143,12 @@ pub record PlaceFacts (b : LexOutput) : Type 0 where
   pub offsets : offsets_ok 0 0 b.source_nodes ≡ true
   pub pairs : all (pair_ok (length b.sanitized)) b.pairs ≡ true
   pub container_pairs : all (container_ok (length b.normalized)) b.container_pairs ≡ true
-  pub diagnostics : all (λ (d : Diagnostic). span_ok (length b.sanitized) d.span) b.diagnostics ≡ true
+  pub diagnostics : all (diagnostic_ok (length b.sanitized)) b.diagnostics ≡ true
 
 pub place_facts : (b : LexOutput) → places_ok b ≡ true → PlaceFacts b
 unfolding places_ok
 place_facts b e =
-    let u₆ = both _ (all (λ (d : Diagnostic). span_ok (length b.sanitized) d.span) b.diagnostics) e in
+    let u₆ = both _ (all (diagnostic_ok (length b.sanitized)) b.diagnostics) e in
     let u₅ = both _ (all (container_ok (length b.normalized)) b.container_pairs) u₆.0 in
     let u₄ = both _ (all (pair_ok (length b.sanitized)) b.pairs) u₅.0 in
     let u₃ = both _ (offsets_ok 0 0 b.source_nodes) u₄.0 in
@@ -244,6 +243,7 @@ pub record Passed (old : LexOutput) (e : Edit) (r : Span) (reading : RegionOutpu
   pub region_text : same reading.sanitized (new_region_text old e r) ≡ true
   pub balanced : balanced_nodes reading.source_nodes ≡ true
   pub closed : any is_unclosed reading.diagnostics ≡ false
+  pub unmarked : mark_at_empty_region old.diagnostics r ≡ false
   pub independent : introduces_ruby_format_dependency old reading r ≡ false
   pub cuts : cuts_ok old (window_of old e reading r) ≡ true
   pub layers : not (is_empty reading.source_nodes) && leb max_layers (length old.layers) ≡ false
@@ -251,7 +251,7 @@ pub record Passed (old : LexOutput) (e : Edit) (r : Span) (reading : RegionOutpu
 module _ (old : LexOutput) (e : Edit) (r : Span) (reading : RegionOutput) where
   pub passed_fitting : Passed old e r reading → fitting old e r reading ≡ accepted (window_of old e reading r)
   unfolding fitting refuse◌if◌ ◌>>=◌
-  passed_fitting p = rw (p.region_text, p.balanced, p.closed, p.independent, p.cuts, p.layers) refl
+  passed_fitting p = rw (p.region_text, p.balanced, p.closed, p.unmarked, p.independent, p.cuts, p.layers) refl
 
   pub fitting_passed : (w : MergeWindow) → fitting old e r reading ≡ accepted w → (window_of old e reading r ≡ w) × Passed old e r reading
   unfolding fitting
@@ -259,7 +259,8 @@ module _ (old : LexOutput) (e : Edit) (r : Span) (reading : RegionOutput) where
       let v = window_of old e reading r in
       let s₂ = refuse_accepted 12 (not (same reading.sanitized (new_region_text old e r))) _ w q in
       let s₃ = refuse_accepted 13 (not (balanced_nodes reading.source_nodes)) _ w s₂.1 in
-      let s₄ = refuse_accepted 14 (any is_unclosed reading.diagnostics) _ w s₃.1 in
+      let s₄ = refuse_accepted 14 (any is_unclosed reading.diagnostics || mark_at_empty_region old.diagnostics r) _ w s₃.1 in
+      let u₄ = neither (any is_unclosed reading.diagnostics) (mark_at_empty_region old.diagnostics r) s₄.0 in
       let s₅ = refuse_accepted 15 (introduces_ruby_format_dependency old reading r) _ w s₄.1 in
       let s₆ = refuse_accepted 16 (not (cuts_ok old v)) _ w s₅.1 in
       let s₇ = refuse_accepted 17 (not (is_empty reading.source_nodes) && leb max_layers (length old.layers)) _ w s₆.1 in (
@@ -267,7 +268,8 @@ module _ (old : LexOutput) (e : Edit) (r : Span) (reading : RegionOutput) where
         record {
           region_text = not-false (same reading.sanitized (new_region_text old e r)) s₂.0;
           balanced = not-false (balanced_nodes reading.source_nodes) s₃.0;
-          closed = s₄.0;
+          closed = u₄.0;
+          unmarked = u₄.1;
           independent = s₅.0;
           cuts = not-false (cuts_ok old v) s₆.0;
           layers = s₇.0;
@@ -278,6 +280,7 @@ pub record MergeFacts (old : LexOutput) (e : Edit) (r : Span) (reading : RegionO
   pub region_text : reading.sanitized ≡ new_region_text old e r
   pub balanced : balanced_nodes reading.source_nodes ≡ true
   pub closed : any is_unclosed reading.diagnostics ≡ false
+  pub unmarked : mark_at_empty_region old.diagnostics r ≡ false
   pub independent : introduces_ruby_format_dependency old reading r ≡ false
   pub cuts : cuts_ok old (window_of old e reading r) ≡ true
   pub layers : not (is_empty reading.source_nodes) && leb max_layers (length old.layers) ≡ false
@@ -306,6 +309,7 @@ merge_facts old e r reading room m q =
       region_text = same_eq reading.sanitized (new_region_text old e r) p.region_text;
       balanced = p.balanced;
       closed = p.closed;
+      unmarked = p.unmarked;
       independent = p.independent;
       cuts = p.cuts;
       layers = p.layers;

@@ -1,6 +1,6 @@
 -- A book whose numbers fit their places on a tape: bytes below 2 ^ 8, words below 2 ^ 32. Such a book can be written and read
 -- again (WriteRead), and every book that a tape of bytes holds is one (ReadFits).
-use Rattle.std.specs.Prelude.{ℕ, ◌^◌, Bool, true, false, not, ◌&&◌, List, [], ◌∷◌, length, ltb}
+use Rattle.std.specs.Prelude.{ℕ, Bool, true, false, not, ◌&&◌, List, [], ◌∷◌, length, ltb}
 use Rattle.model.specs.Lists.{all, is_empty}
 use Rattle.model.specs.Types.{Layer, LexOutput}
 use Rattle.model.specs.Tape.{Operand, Operand.byte, Operand.word, Codec, content_codec, segment_codec, node_codec, pair_codec, container_codec, diagnostic_codec, book_shape}

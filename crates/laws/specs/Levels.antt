@@ -17,7 +17,7 @@ use Rattle.model.specs.Types.{Body, Content, Segment, Layer, SourceNode}
 use Rattle.model.specs.Tape.{Operand, Operand.byte, Operand.word, Field, Field.str, Field.opt_str, Field.content_range, Field.seg_range, segment_codec, node_codec, field_table, fields_of, node_fields, tag_counts, unused_zero, body_shape, segment_shape, node_shape}
 use Rattle.model.specs.Store.{NodeStore, resolve_str, resolve_content_range, resolve_seg_range}
 use Rattle.model.specs.WellFormed.{word_of, content_segments, field_segments, level_ok, node_ok}
-use Rattle.model.specs.Tree.{Tree, Fields.text, Fields.absent, Fields.segments}
+use Rattle.model.specs.Tree.{Tree, Fields.text, Fields.absent}
 use Rattle.model.specs.Tree.{Contents.plain, Contents.segmented}
 use Rattle.model.specs.Tree.{show_segments, show_contents, show_fields, show_with, show_node, ShownNode, shown_node}
 use Rattle.model.specs.Graft.{NewLayer, graft_node, graft_fields, graft_node_ref, graft_node_refs}

@@ -16,6 +16,7 @@ pub mod Sort
 pub mod StableSort
 pub mod Located
 pub mod Nodes
+pub mod Marks
 pub mod Prefix
 pub mod Intern
 pub mod Slots

@@ -1,5 +1,5 @@
 -- Laws of Bool tests and of the list functions of `model`, that several files cite.
-use Rattle.std.specs.Prelude.{◌≡◌, refl, ◌⊎◌, ℕ, zero, suc, ◌+◌, ◌≤◌, ◌<◌, Bool, true, false, cond, ◌&&◌, ◌||◌, length, get_or, take, drop, T, eqb}
+use Rattle.std.specs.Prelude.{◌≡◌, refl, ◌⊎◌, ℕ, zero, suc, ◌+◌, ◌≤◌, ◌<◌, Bool, true, false, cond, not, ◌&&◌, ◌||◌, length, get_or, take, drop, T, eqb}
 use Rattle.std.proofs.Common.{sym, ap, ◌∙◌, inl, inr, arith, length-drop, length-take-le, eqb-true, eq-eqb}
 use Rattle.std.proofs.lemmas.Bool.{false≢true}
 use Rattle.std.proofs.Math.Option.{none, some}
@@ -21,6 +21,11 @@ join false y p q = absurd (false≢true p)
 pub either : (x y : Bool) → x || y ≡ true → (x ≡ true) ⊎ (y ≡ true)
 either true y e = inl refl
 either false y e = inr e
+
+-- of two that do not hold together
+pub not_both : (x y : Bool) → not (x && y) ≡ true → y ≡ true → x ≡ false
+not_both true y e h = absurd (false≢true (let z : not (true && true) ≡ true = rw h at e in z))
+not_both false y e h = refl
 
 pub neither : (x y : Bool) → x || y ≡ false → (x ≡ false) × (y ≡ false)
 neither true y e = absurd (false≢true (sym e))

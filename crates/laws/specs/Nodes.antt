@@ -11,8 +11,8 @@ use borrow.Author.Tests.{leb-true, ltb-true, ltb-false, eqb-true, not-true, le-l
 use Rattle.model.specs.Lists.{all, any, keep, sum}
 use Rattle.model.specs.Limits.{max_text}
 use Rattle.model.specs.Offset.{Span}
-use Rattle.model.specs.Types.{SourceNode, PairLink, ContainerPair, LexOutput}
-use Rattle.model.specs.WellFormed.{span_ok, ordered, offsets_ok, image_length, span_length, pair_ok, container_ok, images, spans}
+use Rattle.model.specs.Types.{SourceNode, PairLink, ContainerPair, Diagnostic, LexOutput}
+use Rattle.model.specs.WellFormed.{span_ok, ordered, offsets_ok, image_length, span_length, pair_ok, container_ok, diagnostic_ok, images, spans}
 use Rattle.model.specs.Region.{across, depth_behind, depth, is_block_open, is_block_close, is_warichu_open, is_warichu_close, nodes_before, nodes_allow_cut, pairs_allow_cut, blank_line_before, safe_cut}
 use Rattle.model.specs.Merge.{balanced_from, normalized_offset}
 use Rattle.laws.specs.Lists.{both, join, all_and, all_keep, all_map, map_append}
@@ -70,6 +70,14 @@ container_facts size c o = let s = both (ltb c.opening c.closing) (ltb c.closing
 pub container_ok_lem : (size : ℕ) (c : ContainerPair) → c.opening < c.closing → c.closing < size → container_ok size c ≡ true
 unfolding container_ok
 container_ok_lem size c a b = join (ltb c.opening c.closing) (ltb c.closing size) (lt-ltb c.opening c.closing a) (lt-ltb c.closing size b)
+
+pub diagnostic_facts : (size : ℕ) (d : Diagnostic) → diagnostic_ok size d ≡ true → (d.span.start ≤ d.span.end) × (d.span.end ≤ size)
+unfolding diagnostic_ok
+diagnostic_facts size d e = let s = both (leb d.span.start d.span.end) (leb d.span.end size) e in (leb-true d.span.start d.span.end s.0, leb-true d.span.end size s.1)
+
+pub diagnostic_ok_lem : (size : ℕ) (d : Diagnostic) → d.span.start ≤ d.span.end → d.span.end ≤ size → diagnostic_ok size d ≡ true
+unfolding diagnostic_ok
+diagnostic_ok_lem size d h k = join (leb d.span.start d.span.end) (leb d.span.end size) (le-leb d.span.start d.span.end h) (le-leb d.span.end size k)
 
 -- ---- sums
 

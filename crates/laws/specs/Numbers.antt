@@ -1,5 +1,5 @@
 -- Demand 1, of the definitions: whatever is asked, the answer is a result or one number of the table.
-use Rattle.std.specs.Prelude.{◌≡◌, refl, ℕ, ◌≤◌, Bool, not, ◌&&◌, List}
+use Rattle.std.specs.Prelude.{ℕ, ◌≤◌, Bool, List}
 use native.Mathlib.Omega.{arith}
 use Rattle.std.proofs.Math.Bool.{true, false}
 use Rattle.std.proofs.Math.Option.{Option, none, some}
@@ -9,7 +9,7 @@ use Rattle.model.specs.Refusal.{Checked, Checked.refused, Checked.accepted, ◌>
 use Rattle.model.specs.Tape.{parse}
 use Rattle.model.specs.WellFormed.{laid_out, well_formed, check_book, check_reading}
 use Rattle.model.specs.Region.{Edit, chosen_region, choose_region}
-use Rattle.model.specs.Merge.{Stored, Room, IncrementalOutput, fitting, result_checked, merge_books, merge, fitted}
+use Rattle.model.specs.Merge.{Stored, Room, fitting, result_checked, merge_books, merge, fitted}
 use Rattle.model.specs.Estimate.{estimate}
 use Rattle.model.specs.Demand3.{Correction, merge_of}
 use Rattle.model.specs.Desk.{merge_for_desk, charged}

@@ -1,9 +1,8 @@
 -- Nodes of an accepted book are ordered, so those that pass a test of their place are a first or a last part of the list. The
 -- Rust takes them by `take_while`, `skip_while`, `break` and `partition_point`; the definitions keep them by the test.
-use Rattle.std.specs.Prelude.{◌≡◌, ℕ, ◌≤◌, ◌<◌, Bool, true, false, cond, ◌&&◌, leb, ltb}
+use Rattle.std.specs.Prelude.{◌≡◌, ℕ, ◌≤◌, ◌<◌, Bool, true, false, cond, leb, ltb}
 use Rattle.std.proofs.Math.Path.{refl}
-use Rattle.std.proofs.Common.{ap, ◌∙◌, arith}
-use Rattle.std.proofs.lemmas.Bool.{false≢true}
+use Rattle.std.proofs.Common.{ap, arith}
 use mathlib.Core.List.{List, [], ◌∷◌}
 use borrow.Author.Tests.{leb-true, leb-false, ltb-true, ltb-false, le-leb, lt-leb, le-ltb}
 use Rattle.model.specs.Lists.{all, keep}

@@ -1,5 +1,5 @@
 -- A list with more behind it: pools that are only added to.
-use Rattle.std.specs.Prelude.{◌≡◌, ℕ, ◌≤◌, List, [], ◌++◌, length}
+use Rattle.std.specs.Prelude.{◌≡◌, ◌≤◌, List, [], ◌++◌, length}
 use Rattle.std.proofs.Common.{sym, ap, ◌∙◌, arith, append_assoc, append-nil, length-append}
 
 pub record Prefix {A : Type 0} (a b : List A) : Type 0 where

@@ -1,11 +1,11 @@
 -- Every book that a tape of bytes holds is one whose numbers fit.
-use Rattle.std.specs.Prelude.{◌≡◌, ℕ, zero, suc, ◌+◌, ◌*◌, ◌≤◌, ◌<◌, Bool, true, false, ◌&&◌, length, get_or, take, drop, ltb}
-use Rattle.std.proofs.Math.Path.{refl, ap, subst, subst⁻¹}
-use Rattle.std.proofs.Common.{sym, ◌∙◌, length-take, lt-ltb, ltb-true, ltb-false}
+use Rattle.std.specs.Prelude.{◌≡◌, ℕ, zero, suc, ◌+◌, ◌*◌, ◌<◌, Bool, true, false, length, take, drop, ltb}
+use Rattle.std.proofs.Math.Path.{refl, ap, subst}
+use Rattle.std.proofs.Common.{◌∙◌, length-take, lt-ltb, ltb-true, ltb-false}
 use native.Mathlib.Omega.{arith}
 use Rattle.std.proofs.Math.Bool.{not}
-use Rattle.std.proofs.Math.Option.{Option, some}
-use mathlib.Core.List.{List, [], ◌∷◌, map}
+use Rattle.std.proofs.Math.Option.{some}
+use mathlib.Core.List.{List, [], ◌∷◌}
 use Rattle.std.proofs.Math.ListN.{get_or-eq_default}
 use Rattle.model.specs.Lists.{all, tabulate, is_empty}
 use Rattle.model.specs.Bytes.{AreBytes, byte_at, word_at}
@@ -14,8 +14,8 @@ use Rattle.model.specs.Tape.{Operand, Operand.byte, Operand.word, operand_size, 
 use Rattle.model.specs.Tape.{LayerPlaces, places, string_lengths, pieces, layer_at, layers_at, book_at, parse}
 use Rattle.laws.specs.Lists.{both, join}
 use Rattle.laws.specs.Fits.{is_word, operand_fits, operands_fit, record_fits, layer_fits, fits}
-use Rattle.laws.specs.Records.{Lawful, string_lawful, content_lawful, segment_lawful, node_lawful, pair_lawful, container_lawful, diagnostic_lawful}
-use Rattle.laws.specs.RoundTrip.{LaidOut, parse_laid_out}
+use Rattle.laws.specs.Records.{Lawful, content_lawful, segment_lawful, node_lawful, pair_lawful, container_lawful, diagnostic_lawful}
+use Rattle.laws.specs.RoundTrip.{parse_laid_out}
 use Rattle.laws.specs.WriteRead.{fits_book}
 
 module _ (t : List ℕ) (bytes : AreBytes t) where

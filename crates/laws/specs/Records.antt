@@ -1,8 +1,8 @@
 -- One law for every kind of record: a record or a run of records that was read and is written again is the same bytes, and one
 -- that was written and is read again is the same value. Section 4.
-use Rattle.std.specs.Prelude.{◌≡◌, Bool, true, false, cond, ◌&&◌, drop, eqb, ltb}
+use Rattle.std.specs.Prelude.{◌≡◌, true, drop}
 use Rattle.std.proofs.Math.Path.{refl, sym, ap, ap₂}
-use Rattle.std.proofs.Common.{◌∙◌, mul-le-mul_left, mul-zero, mul-suc, add-zero, add_comm, add_assoc, length-append, drop-cons, drop-drop, drop_at}
+use Rattle.std.proofs.Common.{◌∙◌, mul-le-mul_left, mul-zero, mul-suc, add-zero, add_comm, add_assoc, length-append, drop-cons, drop-drop}
 use Prim.Native.Nat.{ℕ, zero, suc, ◌+◌, ◌-◌, ◌*◌, ◌≤◌, ◌<◌}
 use native.Mathlib.Omega.{arith}
 use Rattle.std.proofs.Math.Decide.{dec_le, ℕ_discrete}
@@ -12,8 +12,7 @@ use mathlib.Core.List.{List, [], ◌∷◌, ◌++◌, append_assoc, map, flatten
 use Rattle.std.proofs.Math.ListN.{length, drop_of_length-le}
 use borrow.Author.Tests.{eq-eqb, ne_eqb, ltb-true}
 use Rattle.model.specs.Lists.{all, tabulate, sum}
-use Rattle.model.specs.Bytes.{AreBytes, byte_at, word_at, word_bytes, part}
-use Rattle.model.specs.Types.{Content, Segment, SourceNode, PairLink, ContainerPair, Diagnostic}
+use Rattle.model.specs.Bytes.{AreBytes, byte_at, part}
 use Rattle.model.specs.Tape.{Operand, Operand.byte, Operand.word, operand_size, value_at, value_bytes, Codec, record_size, operands_at, record_at, operand_bytes, record_bytes, records_at, records_bytes, records_in, count_at}
 use Rattle.model.specs.Tape.{string_codec, content_codec, segment_codec, node_codec, pair_codec, container_codec, diagnostic_codec}
 use Rattle.laws.specs.Lists.{both}

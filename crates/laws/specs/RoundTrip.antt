@@ -1,12 +1,12 @@
 -- Demand 2: a tape that was read and is written again is the same bytes.
-use Rattle.std.specs.Prelude.{◌≡◌, refl, ℕ, zero, suc, ◌+◌, ◌-◌, ◌*◌, ◌≤◌, ◌<◌, Bool, true, false, cond, not, ◌&&◌, length, get_or, take, drop, eqb}
+use Rattle.std.specs.Prelude.{◌≡◌, refl, ℕ, zero, suc, ◌+◌, ◌-◌, ◌*◌, ◌≤◌, Bool, true, false, cond, not, ◌&&◌, length, take, drop, eqb}
 use Rattle.std.proofs.Common.{sym, ap, ap₂, ◌∙◌, subst, arith, add-zero, add_assoc, length-drop, take-append-drop, drop_of_length-le, drop-cons, drop-drop, length-take-le, eqb-true}
 use Rattle.std.proofs.Math.Option.{Option, none, some, none-ne-some, some-injective}
 use mathlib.Core.List.{List, [], ◌∷◌, ◌++◌, append_assoc, append-nil, map, flatten}
 use Rattle.model.specs.Lists.{sum, is_empty}
 use Rattle.model.specs.Bytes.{AreBytes, byte_at, word_at, word_bytes, part}
 use Rattle.model.specs.Types.{Layer, LexOutput}
-use Rattle.model.specs.Tape.{record_size, records_at, records_bytes, count_at, string_codec, content_codec, segment_codec, node_codec, pair_codec, container_codec, diagnostic_codec}
+use Rattle.model.specs.Tape.{records_at, records_bytes, count_at, string_codec, content_codec, segment_codec, node_codec, pair_codec, container_codec, diagnostic_codec}
 use Rattle.model.specs.Tape.{LayerPlaces, layer_places, layers_from, layers_end, places, framed, string_lengths, pieces, layer_at, layers_at, bytes_needed, book_at, book_shape, if_shaped, parse, layer_bytes, tape_of, bytes_of}
 use Rattle.laws.specs.Lists.{both}
 use Rattle.laws.specs.Words.{part_cons, part_add, word_read}

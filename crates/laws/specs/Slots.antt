@@ -1,7 +1,7 @@
 -- The slots of a table, walked around its end: each is reached, a table that is not full has an empty one, and how many are taken.
 use Rattle.std.specs.Prelude.{◌≡◌, Bool, List, [], ◌∷◌, ◌++◌, set, take, drop, replicate}
 use Rattle.std.proofs.Math.Path.{refl}
-use Rattle.std.proofs.Common.{sym, ap, ◌∙◌, subst, arith, mod-eq_of_lt, mod-lt, length-set, length-drop, take-append-drop, drop-cons, get_or-set_other}
+use Rattle.std.proofs.Common.{sym, ap, ◌∙◌, arith, mod-eq_of_lt, mod-lt, length-set, length-drop, take-append-drop, drop-cons, get_or-set_other}
 use Prim.Native.Nat.{ℕ, zero, suc, ◌+◌, ◌-◌, ◌%◌, ◌≤◌, ◌<◌}
 use Rattle.std.proofs.Math.Decide.{dec_lt}
 use Rattle.std.proofs.Math.Nat.{mod_self}

@@ -1,5 +1,5 @@
 -- Words and parts of a tape: read and written again, written and read again. Section 4.
-use Rattle.std.specs.Prelude.{◌≡◌, refl, ℕ, zero, suc, ◌+◌, ◌*◌, ◌/◌, ◌%◌, ◌≤◌, ◌<◌, List, [], ◌∷◌, ◌++◌, length, get_or, take, drop}
+use Rattle.std.specs.Prelude.{◌≡◌, refl, ℕ, suc, ◌+◌, ◌*◌, ◌/◌, ◌%◌, ◌≤◌, ◌<◌, List, [], ◌∷◌, ◌++◌, length, get_or, take, drop}
 use Rattle.std.proofs.Common.{sym, ap, ◌∙◌, arith, add-one, add-zero, drop-cons, drop-drop, get_or-drop, take-add, drop_at}
 use Rattle.model.specs.Bytes.{AreBytes, byte_at, word_at, word_bytes, part}
 

@@ -1,20 +1,18 @@
 -- A book whose numbers fit is parsed back from its own tape and bytes.
-use Rattle.std.specs.Prelude.{◌≡◌, refl, ℕ, zero, suc, ◌+◌, ◌*◌, ◌≤◌, ◌<◌, Bool, true, false, cond, not, ◌&&◌, length, take, drop, eqb}
+use Rattle.std.specs.Prelude.{◌≡◌, refl, ℕ, zero, suc, ◌+◌, ◌≤◌, ◌<◌, Bool, true, false, cond, not, ◌&&◌, length, take, drop, eqb}
 use Rattle.std.proofs.Common.{sym, ap, ap₂, ◌∙◌, arith, le_of_suc-le-suc, not-suc-le-zero, length-append, length-drop, drop-drop, take_at, drop_at, eq-eqb, ne_eqb, ltb-true}
 use Rattle.std.proofs.Math.Path.{subst⁻¹}
-use Rattle.std.proofs.lemmas.Bool.{false≢true}
 use Rattle.std.proofs.Math.Option.{Option, none, some}
 use mathlib.Core.List.{List, [], ◌∷◌, ◌++◌, append_assoc, append-nil, map, flatten}
-use Rattle.std.proofs.lemmas.List.{length-map}
 use Rattle.model.specs.Lists.{all, sum, is_empty}
 use Rattle.model.specs.Bytes.{byte_at, word_at, word_bytes}
 use Rattle.model.specs.Types.{Layer, LexOutput}
-use Rattle.model.specs.Tape.{records_at, records_bytes, count_at, string_codec, content_codec, segment_codec, node_codec, pair_codec, container_codec, diagnostic_codec}
+use Rattle.model.specs.Tape.{records_at, records_bytes, string_codec, content_codec, segment_codec, node_codec, pair_codec, container_codec, diagnostic_codec}
 use Rattle.model.specs.Tape.{LayerPlaces, layer_places, layers_from, layers_end, places, framed, string_lengths, pieces, layer_at, layers_at, bytes_needed, book_at, book_shape, if_shaped, parse, layer_bytes, tape_of, bytes_of}
 use Rattle.laws.specs.Lists.{both, join}
-use Rattle.laws.specs.Words.{Stands, stands_behind, stands_at, byte_stands, word_length, word_stands}
+use Rattle.laws.specs.Words.{Stands, stands_behind, byte_stands, word_length, word_stands}
 use Rattle.laws.specs.Fits.{is_word, operands_fit, record_fits, layer_fits, fits}
-use Rattle.laws.specs.Records.{RunStands, run_stands, not_head, string_lawful, content_lawful, segment_lawful, node_lawful, pair_lawful, container_lawful, diagnostic_lawful}
+use Rattle.laws.specs.Records.{run_stands, not_head, string_lawful, content_lawful, segment_lawful, node_lawful, pair_lawful, container_lawful, diagnostic_lawful}
 use Rattle.laws.specs.RoundTrip.{string_bytes}
 
 -- ---- what fits, part by part

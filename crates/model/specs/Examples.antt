@@ -1,29 +1,33 @@
 -- The worked examples P1 to P10 of document 01's 'Runs', proved together by computation. A replacement that is not named is "x".
-use Rattle.std.specs.Prelude.{◌≡◌, refl, ℕ, length, pos, negsuc}
-use Rattle.std.proofs.Math.Option.{Option, none, some}
-use mathlib.Core.List.{List, [], ◌∷◌, ◌++◌, flatten}
+use Rattle.std.specs.Prelude.{◌≡◌, refl, ℕ, length, negsuc}
+use Rattle.std.proofs.Math.Option.{none}
+use mathlib.Core.List.{List, [], ◌∷◌, flatten}
 use Rattle.model.specs.Lists.{ascii}
 use Rattle.model.specs.Bytes.{word_bytes}
 use Rattle.model.specs.Offset.{Span, shifted, shift_u32}
 use Rattle.model.specs.Intern.{fx_hash, fresh_interner, intern}
-use Rattle.model.specs.Types.{LexOutput, RegionOutput}
+use Rattle.model.specs.Types.{Diagnostic, LexOutput, RegionOutput}
 use Rattle.model.specs.Refusal.{Checked, Checked.refused, Checked.accepted}
 use Rattle.model.specs.Tape.{tape_of, bytes_of}
 use Rattle.model.specs.Region.{Edit, choose_region}
 use Rattle.model.specs.Runs.{program, line}
 use Rattle.model.specs.Computed.{computed}
 
--- a book of plain text: no nodes, and one empty layer
-abbrev pub plain_book : List ℕ → LexOutput
-plain_book t = record {
+-- a book of plain text and diagnostics: no other list, and one empty layer
+abbrev pub marked_book : List ℕ → List Diagnostic → LexOutput
+marked_book t diagnostics = record {
   sanitized = t;
   normalized = t;
   layers = record { strings = []; contents = []; segments = [] } ∷ [];
   source_nodes = [];
   pairs = [];
   container_pairs = [];
-  diagnostics = [];
+  diagnostics = diagnostics;
 }
+
+-- the same without diagnostics
+abbrev pub plain_book : List ℕ → LexOutput
+plain_book t = marked_book t []
 
 -- an edit whose replacement is "x"
 abbrev pub edit : ℕ → ℕ → Edit

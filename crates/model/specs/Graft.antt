@@ -1,8 +1,8 @@
 -- Section 5: trees copied into a new layer. Each function takes the layer so far and returns it with what it added.
-use Rattle.std.specs.Prelude.{ℕ, zero, suc, ◌+◌, List, [], ◌∷◌, ◌++◌, map, length, set, replicate}
+use Rattle.std.specs.Prelude.{ℕ, ◌+◌, List, [], ◌∷◌, ◌++◌, length, set, replicate}
 use Rattle.model.specs.Lists.{sum}
 use Rattle.model.specs.Limits.{no_string}
-use Rattle.model.specs.Intern.{StrInterner, Interned, fresh_interner, intern}
+use Rattle.model.specs.Intern.{StrInterner, fresh_interner, intern}
 use Rattle.model.specs.Types.{Body, Content, Segment, Layer, SourceNode}
 use Rattle.model.specs.Store.{string_counts, content_counts, segment_counts}
 use Rattle.model.specs.Tree.{Tree, Tree.tree, Fields, Fields.done, Fields.text, Fields.absent, Fields.contents, Fields.segments, ShownNode}

@@ -1,5 +1,5 @@
 -- Section 2: the hash, and the interner as a function from a state and a string to an id and a state.
-use Rattle.std.specs.Prelude.{ℕ, zero, suc, ◌+◌, ◌-◌, ◌*◌, ◌/◌, ◌%◌, ◌^◌, Bool, true, false, cond, not, ◌&&◌, List, [], ◌∷◌, ◌++◌, length, get_or, set, replicate, leb, ltb, eqb}
+use Rattle.std.specs.Prelude.{ℕ, zero, suc, ◌+◌, ◌-◌, ◌*◌, ◌/◌, ◌%◌, ◌^◌, Bool, false, cond, not, ◌&&◌, List, [], ◌∷◌, ◌++◌, length, get_or, set, replicate, leb, ltb, eqb}
 use Rattle.std.specs.Int.Bits.{bit_xor}
 use Rattle.model.specs.Lists.{same, is_empty}
 use Rattle.model.specs.Limits.{fx_prime, fx_rotate_bits, intern_length_limit, initial_capacity, load_factor_numerator, load_factor_denominator}

@@ -13,6 +13,7 @@ pub mod Tree
 pub mod Graft
 pub mod Region
 pub mod Merge
+pub mod Once
 pub mod Estimate
 pub mod Ceiling
 pub mod Lookup

@@ -1,7 +1,7 @@
 -- List functions that the other files use and the kit's libraries lack, with tests that are Bools. No sentence of document 01
 -- is here. A recursive call that a test may not need is bound by a `let`, which waits: antt computes a call's arguments first.
-use Rattle.std.specs.Prelude.{ℕ, zero, suc, ◌+◌, Bool, true, false, ◌&&◌, ◌||◌, cond, List, [], ◌∷◌, ◌++◌, eqb}
-use Prim.Native.Char.{Char, code}
+use Rattle.std.specs.Prelude.{ℕ, zero, suc, ◌+◌, Bool, true, false, ◌&&◌, ◌||◌, cond, List, [], ◌∷◌, eqb}
+use Prim.Native.Char.{code}
 use Prim.Native.String.{String, [] as no_text, ◌∷◌ as ◌then◌}
 
 module _ {A : Type 0} where

@@ -1,6 +1,6 @@
 -- Section 7, its first paragraph: the merge, tape to tape; numbers 12 to 18 of the table.
-use Rattle.std.specs.Prelude.{ℕ, zero, suc, ◌+◌, ◌-◌, Bool, true, false, cond, not, ◌&&◌, ◌||◌, List, [], ◌∷◌, ◌++◌, map, length, take, drop, replicate, leb, ltb, eqb, ℤ, pos}
-use Rattle.std.proofs.Math.Option.{Option, none, some, get_or}
+use Rattle.std.specs.Prelude.{ℕ, suc, ◌+◌, ◌-◌, Bool, cond, not, ◌&&◌, ◌||◌, List, [], ◌∷◌, ◌++◌, map, length, take, drop, replicate, leb, ltb, eqb, ℤ, pos}
+use Rattle.std.proofs.Math.Option.{get_or}
 use Rattle.std.proofs.Math.IntN.{sub_ℕ}
 use Rattle.model.specs.Lists.{any, keep, is_empty, same}
 use Rattle.model.specs.Limits.{max_layers, max_new_strings, min_work_words}
@@ -76,6 +76,15 @@ balanced_nodes ns = balanced_from is_block_open is_block_close 0 ns && balanced_
 -- Number 14. Diagnostic kind 2, UnclosedBracket, or 3, UnmatchedClose.
 unfoldable pub is_unclosed : Diagnostic → Bool
 is_unclosed d = eqb d.kind 2 || eqb d.kind 3
+
+-- Wish 5. A mark of no width at this place.
+unfoldable pub is_mark_at : ℕ → Diagnostic → Bool
+is_mark_at o d = eqb d.span.start o && eqb d.span.end o
+
+-- Wish 5. Condition 14 also holds where the region is empty and a mark of no width of the old book lies at its place: nothing
+-- tells on which side of the new text it belongs. A mark of any kind does.
+unfoldable pub mark_at_empty_region : List Diagnostic → Span → Bool
+mark_at_empty_region old r = eqb r.start r.end && any (is_mark_at r.start) old
 
 -- the plain bases of the Rubies among nodes
 unfoldable pub ruby_bases : NodeStore → List SourceNode → List (List ℕ)
@@ -197,7 +206,8 @@ container_located = record {
 unfoldable pub shifted_diagnostic : ℤ → Diagnostic → Diagnostic
 shifted_diagnostic by d = record { kind = d.kind; code_rank = d.code_rank; span = shifted d.span by; plain = d.plain }
 
--- `merge_diagnostics`
+-- `merge_diagnostics`. Wish 5. A mark of no width at or before the region's start counts as before it; otherwise one at or behind
+-- the region's end counts as behind. Only a mark at an empty region could count as both, and that is 14 (`CountedOnce`).
 unfoldable pub diagnostic_located : Located Diagnostic
 diagnostic_located = record {
   place = λ d. d.span;
@@ -283,7 +293,7 @@ fitting old e r reading =
     do
       _ ← refuse 12 if not (same reading.sanitized (new_region_text old e r))
       _ ← refuse 13 if not (balanced_nodes reading.source_nodes)
-      _ ← refuse 14 if any is_unclosed reading.diagnostics
+      _ ← refuse 14 if any is_unclosed reading.diagnostics || mark_at_empty_region old.diagnostics r
       _ ← refuse 15 if introduces_ruby_format_dependency old reading r
       _ ← refuse 16 if not (cuts_ok old w)
       _ ← refuse 17 if not (is_empty reading.source_nodes) && leb max_layers (length old.layers)

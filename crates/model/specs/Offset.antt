@@ -1,5 +1,5 @@
 -- Section 1: a span, and offsets moved by a signed amount. Amounts are `lib.IntN.ℤ`, which is what an `i64` is in a contract.
-use Rattle.std.specs.Prelude.{ℕ, ◌-◌, ◌^◌, min, Bool, cond, ◌&&◌}
+use Rattle.std.specs.Prelude.{ℕ, ◌-◌, ◌^◌, min, cond, ◌&&◌}
 use Rattle.std.proofs.Math.Option.{Option, none, some}
 use lib.IntN.{ℤ, pos, negsuc, ◌+ℤ◌}
 use Rattle.std.specs.Int.Signed.{le_z}

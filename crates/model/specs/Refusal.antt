@@ -6,7 +6,7 @@ use Rattle.std.specs.Prelude.{ℕ, Bool, true, false}
 --    2  WellFormed.texts_are_utf8, chosen_region  11  Region.is_whole
 --    3  WellFormed.within_limits, chosen_region   12  Merge.new_region_text
 --    4  WellFormed.ids_ok                         13  Merge.balanced_nodes
---    5  WellFormed.levels_ok                      14  Merge.is_unclosed
+--    5  WellFormed.levels_ok                      14  Merge.is_unclosed, mark_at_empty_region
 --    6  WellFormed.places_ok                      15  Merge.introduces_ruby_format_dependency
 --    7  WellFormed.normalized_length_ok           16  Merge.cuts_ok
 --    8  Region.edit_ok                            17  Merge.fitting

@@ -1,5 +1,5 @@
 -- Section 6: the edit, the cuts that are safe, the region; numbers 8 to 11 of the table.
-use Rattle.std.specs.Prelude.{ℕ, zero, suc, ◌+◌, ◌-◌, ◌/◌, Bool, true, false, cond, not, ◌&&◌, ◌||◌, List, [], ◌∷◌, ◌++◌, length, get_or, take, drop, leb, ltb, eqb}
+use Rattle.std.specs.Prelude.{ℕ, zero, suc, ◌+◌, ◌-◌, ◌/◌, Bool, false, cond, not, ◌&&◌, ◌||◌, List, [], ◌∷◌, ◌++◌, length, get_or, take, drop, leb, ltb, eqb}
 use Rattle.std.proofs.Math.Option.{Option, none, some}
 use Rattle.model.specs.Lists.{any, keep, same}
 use Rattle.model.specs.Limits.{max_text}
@@ -7,7 +7,7 @@ use Rattle.model.specs.Bytes.{part}
 use Rattle.model.specs.Utf8.{utf8, is_char_boundary}
 use Rattle.model.specs.Offset.{Span}
 use Rattle.model.specs.Types.{SourceNode, PairLink, LexOutput}
-use Rattle.model.specs.Refusal.{Checked, Checked.refused, Checked.accepted, ◌>>=◌, refuse◌if◌}
+use Rattle.model.specs.Refusal.{Checked, Checked.accepted, ◌>>=◌, refuse◌if◌}
 use Rattle.model.specs.Store.{NodeStore, store_of, content_range_as_plain}
 use Rattle.model.specs.WellFormed.{word_of, check_book}
 

@@ -1,13 +1,11 @@
 -- 'Runs': the input of the program `merge` and the line that it prints.
-use Rattle.std.specs.Prelude.{ℕ, zero, suc, ◌+◌, ◌/◌, ◌%◌, Bool, true, false, cond, not, ◌&&◌, length, drop, leb, ltb, eqb}
+use Rattle.std.specs.Prelude.{ℕ, zero, suc, ◌+◌, ◌/◌, ◌%◌, cond, not, length, leb, ltb, eqb}
 use mathlib.Core.List.{List, [], ◌∷◌, ◌++◌, flatten}
 use Rattle.model.specs.Lists.{all, sum, ascii}
 use Rattle.model.specs.Limits.{max_part, min_work_words}
 use Rattle.model.specs.Bytes.{word_at, part}
-use Rattle.model.specs.Offset.{Span}
 use Rattle.model.specs.Refusal.{Checked, Checked.refused, Checked.accepted, ◌>>=◌, refuse◌if◌}
-use Rattle.model.specs.Region.{Edit}
-use Rattle.model.specs.Merge.{Stored, Room, IncrementalOutput, merge}
+use Rattle.model.specs.Merge.{Room, IncrementalOutput, merge}
 
 -- ---- the input: seven words, then five parts
 

@@ -1,6 +1,6 @@
 -- Section 4, down to 'Well formed': the tape. Its records as one table, where they stand, the book that a tape and its bytes
 -- hold, and the tape and bytes of a book.
-use Rattle.std.specs.Prelude.{ℕ, zero, suc, ◌+◌, ◌-◌, ◌*◌, ◌/◌, ◌%◌, Bool, true, false, cond, not, ◌&&◌, ◌||◌, length, get_or, take, drop, leb, ltb, eqb}
+use Rattle.std.specs.Prelude.{ℕ, zero, suc, ◌+◌, ◌-◌, ◌*◌, ◌%◌, Bool, true, cond, not, ◌&&◌, ◌||◌, length, get_or, take, drop, leb, ltb, eqb}
 use Rattle.std.proofs.Math.Option.{Option, none, some}
 use mathlib.Core.List.{List, [], ◌∷◌, ◌++◌, map, flatten}
 use Rattle.model.specs.Lists.{all, any, tabulate, sum, is_empty}

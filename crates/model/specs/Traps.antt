@@ -1,13 +1,13 @@
 -- The traps of document 01, and the sentences that two readers could take differently (docs/DECISIONS.md): each a theorem by
 -- computation that tells the right answer from the wrong one. For each there is a must-fail edit of its definition.
-use Rattle.std.specs.Prelude.{◌≡◌, refl, ℕ, zero, suc, Bool, true, false, List, [], ◌∷◌, ◌++◌, map, length, set, replicate}
+use Rattle.std.specs.Prelude.{◌≡◌, refl, ℕ, suc, true, false, List, [], ◌∷◌, ◌++◌, map, length, set, replicate}
 use Rattle.std.proofs.Math.Option.{Option, none, some}
 use Rattle.model.specs.Lists.{tabulate, ascii}
 use Rattle.model.specs.Limits.{no_string}
 use Rattle.model.specs.Offset.{Span}
 use Rattle.model.specs.Intern.{InternStats, StrInterner, Interned, fresh_interner, intern, intern_all}
 use Rattle.model.specs.Types.{Body, Content, Segment, Layer, SourceNode, PairLink, ContainerPair, Diagnostic, LexOutput, RegionOutput}
-use Rattle.model.specs.Refusal.{Checked, Checked.refused, Checked.accepted, number_of}
+use Rattle.model.specs.Refusal.{Checked, Checked.refused, Checked.accepted, ◌>>=◌, number_of}
 use Rattle.model.specs.Tape.{parse, tape_of, bytes_of}
 use Rattle.model.specs.WellFormed.{check_book, check_reading}
 use Rattle.model.specs.Tree.{shown_nodes}
@@ -18,7 +18,7 @@ use Rattle.model.specs.Estimate.{Estimate, is_over, price_of, estimate}
 use Rattle.model.specs.Ceiling.{distinct_short, reading_calls}
 use Rattle.model.specs.Desk.{zero_ledger, merge_for_desk, ledger_after, ledger_behind, charges, rereads, own_rereads, DeskCall, desk_of_call, desk_answer}
 use Rattle.model.specs.Runs.{program, program_room}
-use Rattle.model.specs.Examples.{plain_book, edit, region_in, region, ruby_reading, input}
+use Rattle.model.specs.Examples.{marked_book, plain_book, edit, region_in, region, ruby_reading, input}
 use Rattle.model.specs.Computed.{computed}
 
 -- ---- small books
@@ -70,15 +70,7 @@ three_with pairs containers diagnostics = record {
 
 -- the reading "xb\n\n" without nodes, with these diagnostics
 abbrev plain_reading : List Diagnostic → RegionOutput
-plain_reading diagnostics = record {
-  sanitized = ascii "xb\n\n";
-  normalized = ascii "xb\n\n";
-  layers = layer_of [] [] [] ∷ [];
-  source_nodes = [];
-  pairs = [];
-  container_pairs = [];
-  diagnostics = diagnostics;
-}
+plain_reading = marked_book (ascii "xb\n\n")
 
 abbrev read_back : Checked IncrementalOutput → Option LexOutput
 read_back (refused n) = none
@@ -441,3 +433,112 @@ pub invoice_of_two_desks :
     × (own_rereads 3 charged_for ∷ own_rereads 0 charged_for ∷ own_rereads 1 charged_for ∷ rereads charged_for ∷ [] ≡ 2 ∷ 1 ∷ 0 ∷ 3 ∷ [])
 unfolding computed
 invoice_of_two_desks = (refl, refl)
+
+-- ---- wish 5
+
+abbrev mark : ℕ → ℕ → Diagnostic
+mark place plain = diagnostic place place plain
+
+-- "a" behind an Inline node of no width
+abbrev empty_node : LexOutput
+empty_node = record {
+  sanitized = ascii "a";
+  normalized = 0xee ∷ 0x80 ∷ 0x81 ∷ ascii "a";
+  layers = layer_of (ascii "x" ∷ []) [] [] ∷ [];
+  source_nodes = record { class = 0; inline = 0; source_span = span 0 0; normalized_offset = 0; body = body 12 0 (words 0 0) } ∷ [];
+  pairs = [];
+  container_pairs = [];
+  diagnostics = [];
+}
+
+-- Wish 5. A mark of no width may lie at 0, at the text's end, and in a text of no bytes; one byte behind the end, or start behind
+-- end, is 6. A pair and a node of no width stay 6.
+pub marks_well_formed :
+    (number (marked_book (ascii "aa\n\nbb") (mark 0 1 ∷ mark 4 2 ∷ mark 6 3 ∷ [])) ≡ 0) × (number (marked_book [] (mark 0 1 ∷ [])) ≡ 0)
+    × (number (marked_book (ascii "aa\n\nbb") (mark 7 1 ∷ [])) ≡ 6) × (number (marked_book (ascii "aa\n\nbb") (diagnostic 3 2 1 ∷ [])) ≡ 6)
+    × (number (three_with (record { kind = 0; opening = span 1 1; closing = span 2 3 } ∷ []) [] []) ≡ 6) × (number empty_node ≡ 6)
+unfolding computed
+marks_well_formed = (refl, refl, refl, refl, refl, refl)
+
+-- the merged diagnostics, or the number
+abbrev merged_diagnostics : LexOutput → Edit → RegionOutput → Checked (List Diagnostic)
+merged_diagnostics old e reading = do
+  m ← merge (stored_book old) e (stored_book reading) program_room
+  accepted (field (λ b. b.diagnostics) [] (parse m.output.tape m.output.bytes))
+
+-- Wish 5. Region 4..8: a mark at 4 counts as before it, one at 5 is dropped, one at 8 counts as behind. Marks with equal keys meet at
+-- both cuts, in the order before, the reading's, behind.
+pub marks_at_the_cuts :
+    merged_diagnostics (marked_book (ascii "aa\n\nbb\n\ncc") (mark 8 1 ∷ mark 5 2 ∷ mark 4 3 ∷ mark 10 4 ∷ [])) (edit 4 5) (plain_reading (mark 4 5 ∷ mark 0 6 ∷ []))
+    ≡ accepted (mark 4 3 ∷ mark 4 6 ∷ mark 8 5 ∷ mark 8 1 ∷ mark 10 4 ∷ [])
+unfolding computed
+marks_at_the_cuts = refl
+
+-- Wish 5. Marks at 0 and at the text's end are kept, also where the region reaches there: 0..4, and 4..6.
+pub marks_at_the_ends :
+    (merged_diagnostics (marked_book (ascii "aa\n\nbb") (mark 6 1 ∷ mark 0 2 ∷ [])) (edit 0 0) (plain_book (ascii "xaa\n\n")) ≡ accepted (mark 0 2 ∷ mark 7 1 ∷ []))
+    × (merged_diagnostics (marked_book (ascii "aa\n\nbb") (mark 6 1 ∷ mark 0 2 ∷ [])) (edit 6 6) (plain_book (ascii "bbx")) ≡ accepted (mark 0 2 ∷ mark 7 1 ∷ []))
+unfolding computed
+marks_at_the_ends = (refl, refl)
+
+-- Wish 5. A passage taken away: the marks at both its ends and the reading's meet at one place.
+pub marks_meet :
+    merged_diagnostics (marked_book (ascii "aa\n\nbb") (mark 6 1 ∷ mark 5 2 ∷ mark 4 3 ∷ [])) (record { start = 4; end = 6; replacement = [] }) (marked_book [] (mark 0 4 ∷ []))
+    ≡ accepted (mark 4 3 ∷ mark 4 4 ∷ mark 4 1 ∷ [])
+unfolding computed
+marks_meet = refl
+
+-- "aa\n" with these diagnostics, the first "a" a Kaeriten, so that the normalized text is longer
+abbrev ends_later : List Diagnostic → LexOutput
+ends_later diagnostics = record {
+  sanitized = ascii "aa\n";
+  normalized = 0xee ∷ 0x80 ∷ 0x81 ∷ ascii "a\n";
+  layers = kaeriten.layers;
+  source_nodes = kaeriten.source_nodes;
+  pairs = [];
+  container_pairs = [];
+  diagnostics = diagnostics;
+}
+
+-- Wish 5. A mark of no width at an empty region is 14, of whichever kind, and by its place in the text. A mark elsewhere is none, nor is
+-- a diagnostic with a width that ends there.
+pub mark_at_an_empty_region :
+    (merged_diagnostics (marked_book (ascii "aa\n") (mark 3 1 ∷ [])) (edit 3 3) (plain_book (ascii "x")) ≡ refused 14)
+    × (merged_diagnostics (marked_book (ascii "aa\n") (record { kind = 3; code_rank = 0; span = span 3 3; plain = 1 } ∷ [])) (edit 3 3) (plain_book (ascii "x")) ≡ refused 14)
+    × (merged_diagnostics (ends_later (mark 3 1 ∷ [])) (edit 3 3) (plain_book (ascii "x")) ≡ refused 14)
+    × (merged_diagnostics (marked_book (ascii "aa\n") (mark 2 1 ∷ [])) (edit 3 3) (marked_book (ascii "x") (mark 1 2 ∷ mark 0 3 ∷ [])) ≡ accepted (mark 2 1 ∷ mark 3 3 ∷ mark 4 2 ∷ []))
+    × (merged_diagnostics (marked_book (ascii "aa\n") (diagnostic 2 3 1 ∷ [])) (edit 3 3) (plain_book (ascii "x")) ≡ accepted (diagnostic 2 3 1 ∷ []))
+unfolding computed
+mark_at_an_empty_region = (refl, refl, refl, refl, refl)
+
+-- "aa\n" in 32 layers, with a mark at its end
+abbrev full_marked : LexOutput
+full_marked = record {
+  sanitized = ascii "aa\n";
+  normalized = ascii "aa\n";
+  layers = layers_of 32;
+  source_nodes = [];
+  pairs = [];
+  container_pairs = [];
+  diagnostics = mark 3 1 ∷ [];
+}
+
+-- the text "a" as a BlockOpen that nothing closes
+abbrev open_reading : RegionOutput
+open_reading = record {
+  sanitized = ascii "a";
+  normalized = 0xee ∷ 0x80 ∷ 0x81 ∷ [];
+  layers = layers_of 1;
+  source_nodes = record { class = 2; inline = 1; source_span = span 0 1; normalized_offset = 0; body = body 0 0 (words 0 0) } ∷ [];
+  pairs = [];
+  container_pairs = [];
+  diagnostics = [];
+}
+
+-- Wish 5. At an empty region with a mark 12 and 13 go before 14, and 17 behind it.
+pub fourteen_in_its_place :
+    let insert : Edit = record { start = 3; end = 3; replacement = ascii "a" } in
+    (merged_diagnostics full_marked insert (plain_book (ascii "y")) ≡ refused 12) × (merged_diagnostics full_marked insert open_reading ≡ refused 13)
+    × (merged_diagnostics full_marked insert kaeriten ≡ refused 14)
+unfolding computed
+fourteen_in_its_place = (refl, refl, refl)

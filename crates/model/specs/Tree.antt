@@ -1,5 +1,5 @@
 -- Sections 5 and 7: a node with strings in place of ids and lists in place of ranges, and how a store shows one.
-use Rattle.std.specs.Prelude.{ℕ, zero, suc, ◌+◌, Bool, true, false, cond, List, [], ◌∷◌, map, eqb}
+use Rattle.std.specs.Prelude.{ℕ, zero, suc, ◌+◌, cond, List, [], ◌∷◌, map, eqb}
 use Rattle.model.specs.Limits.{no_string, max_level}
 use Rattle.model.specs.Offset.{Span}
 use Rattle.model.specs.Types.{Body, Content, Segment, SourceNode, LexOutput}

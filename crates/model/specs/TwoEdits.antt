@@ -1,6 +1,6 @@
 -- Demand 3 is about something: two edits of one book, by computation. All four merges are accepted, the regions are adjacent,
--- both readings add a layer, containers and diagnostics with equal keys stand where the regions meet, and the first book has
--- references that no node uses.
+-- both readings add a layer, containers and diagnostics with equal keys stand where the regions meet, three of them marks of no width
+-- (wish 5), and the first book has references that no node uses.
 use Rattle.std.specs.Prelude.{◌≡◌, refl, ℕ, suc, ◌+◌, List, [], ◌∷◌, ◌++◌, length}
 use Rattle.std.proofs.Math.Option.{Option, none, some}
 use Rattle.model.specs.Lists.{ascii}
@@ -14,7 +14,7 @@ use Rattle.model.specs.Merge.{stored_book, merge}
 use Rattle.model.specs.Lookup.{lookup_str}
 use Rattle.model.specs.Runs.{program_room}
 use Rattle.model.specs.Demand3.{Shown, shown, shown_contents, moved_behind, region_behind}
-use Rattle.model.specs.Examples.{plain_book, ruby_reading}
+use Rattle.model.specs.Examples.{marked_book, plain_book, ruby_reading}
 use Rattle.model.specs.Computed.{computed}
 
 abbrev span : ℕ → ℕ → Span
@@ -52,7 +52,7 @@ book = record {
   source_nodes = kaeriten 12 13 13 0 ∷ [];
   pairs = pair 0 1 ∷ pair 4 5 ∷ pair 8 9 ∷ [];
   container_pairs = container 0 3 ∷ container 0 4 ∷ container 5 8 ∷ container 8 9 ∷ container 8 12 ∷ container 12 14 ∷ [];
-  diagnostics = diagnostic 12 13 1 ∷ diagnostic 12 13 2 ∷ diagnostic 0 1 3 ∷ diagnostic 7 9 4 ∷ [];
+  diagnostics = diagnostic 12 13 1 ∷ diagnostic 12 13 2 ∷ diagnostic 0 1 3 ∷ diagnostic 7 9 4 ∷ diagnostic 8 8 9 ∷ [];
 }
 
 -- "x" before 4: region 4..8
@@ -68,7 +68,7 @@ earlier_reading = record {
   source_nodes = ruby_reading.source_nodes;
   pairs = pair 0 1 ∷ [];
   container_pairs = container 0 4 ∷ [];
-  diagnostics = diagnostic 3 4 5 ∷ diagnostic 3 4 6 ∷ [];
+  diagnostics = diagnostic 3 4 5 ∷ diagnostic 3 4 6 ∷ diagnostic 5 5 10 ∷ [];
 }
 
 -- "yy" over 8..9: region 8..12
@@ -84,7 +84,7 @@ later_reading = record {
   source_nodes = kaeriten 0 2 0 0 ∷ [];
   pairs = [];
   container_pairs = container 0 5 ∷ [];
-  diagnostics = diagnostic 0 1 7 ∷ diagnostic 0 1 8 ∷ [];
+  diagnostics = diagnostic 0 1 7 ∷ diagnostic 0 1 8 ∷ diagnostic 0 0 11 ∷ [];
 }
 
 -- ---- the two orders
@@ -141,7 +141,7 @@ final = record {
   } ∷ shown_kaeriten 9 11 10 (ascii "x") ∷ shown_kaeriten 14 15 17 (ascii "d") ∷ [];
   pairs = pair 0 1 ∷ pair 4 5 ∷ [];
   container_pairs = container 0 3 ∷ container 4 8 ∷ container 10 15 ∷ container 16 18 ∷ [];
-  diagnostics = diagnostic 0 1 3 ∷ diagnostic 7 8 5 ∷ diagnostic 7 8 6 ∷ diagnostic 9 10 7 ∷ diagnostic 9 10 8 ∷ diagnostic 14 15 1 ∷ diagnostic 14 15 2 ∷ [];
+  diagnostics = diagnostic 0 1 3 ∷ diagnostic 7 8 5 ∷ diagnostic 7 8 6 ∷ diagnostic 9 9 10 ∷ diagnostic 9 9 9 ∷ diagnostic 9 9 11 ∷ diagnostic 9 10 7 ∷ diagnostic 9 10 8 ∷ diagnostic 14 15 1 ∷ diagnostic 14 15 2 ∷ [];
 }
 
 abbrev told : Span → Span → Told
@@ -166,11 +166,11 @@ both_orders = (refl, refl)
 
 -- ---- pairs that are accepted in one order only
 
--- the number of the second of two merges of plain text, the first being accepted
-abbrev number_second : List ℕ → Edit → List ℕ → Edit → List ℕ → Checked ℕ
+-- the number of the second of two merges, the first being accepted
+abbrev number_second : LexOutput → Edit → RegionOutput → Edit → RegionOutput → Checked ℕ
 number_second old e reading e' reading' = do
-  first ← merge (stored_book (plain_book old)) e (stored_book (plain_book reading)) program_room
-  accepted (number_of (merge first.output e' (stored_book (plain_book reading')) program_room))
+  first ← merge (stored_book old) e (stored_book reading) program_room
+  accepted (number_of (merge first.output e' (stored_book reading') program_room))
 
 abbrev over : ℕ → ℕ → List ℕ → Edit
 over start end replacement = record { start = start; end = end; replacement = replacement }
@@ -178,7 +178,18 @@ over start end replacement = record { start = start; end = end; replacement = re
 -- A text's end that was safe only as the end: region 4..7 ends there. Once "x" is put behind it, the region goes on to the new
 -- end, and the reading is refused with 12. The other way round both are accepted.
 pub end_only_safe_as_the_end :
-    (number_second (ascii "aa\n\nbb\n") (over 7 7 (ascii "x")) (ascii "x") (over 4 5 (ascii "y")) (ascii "yb\n") ≡ accepted 12)
-    × (number_second (ascii "aa\n\nbb\n") (over 4 5 (ascii "y")) (ascii "yb\n") (over 7 7 (ascii "x")) (ascii "x") ≡ accepted 0)
+    let old : LexOutput = plain_book (ascii "aa\n\nbb\n") in
+    (number_second old (over 7 7 (ascii "x")) (plain_book (ascii "x")) (over 4 5 (ascii "y")) (plain_book (ascii "yb\n")) ≡ accepted 12)
+    × (number_second old (over 4 5 (ascii "y")) (plain_book (ascii "yb\n")) (over 7 7 (ascii "x")) (plain_book (ascii "x")) ≡ accepted 0)
 unfolding computed
 end_only_safe_as_the_end = (refl, refl)
+
+-- Wish 5. The earlier reading leaves a mark of no width at its end, which is the text's end: there the later region is empty, and its
+-- merge is refused with 14. The other way round both are accepted.
+pub mark_left_at_the_end :
+    let old : LexOutput = plain_book (ascii "aa\n\nbb\n\n") in
+    let marked : RegionOutput = marked_book (ascii "yb\n\n") (diagnostic 4 4 1 ∷ []) in
+    (number_second old (over 4 5 (ascii "y")) marked (over 8 8 (ascii "x")) (plain_book (ascii "x")) ≡ accepted 14)
+    × (number_second old (over 8 8 (ascii "x")) (plain_book (ascii "x")) (over 4 5 (ascii "y")) marked ≡ accepted 0)
+unfolding computed
+mark_left_at_the_end = (refl, refl)

@@ -1,7 +1,7 @@
 -- Section 4 from 'Well formed' on, and numbers 1 to 7 of the table: what a book or a reading must be.
-use Rattle.std.specs.Prelude.{ℕ, zero, suc, ◌+◌, ◌-◌, ◌*◌, Bool, true, false, cond, not, ◌&&◌, ◌||◌, length, get_or, leb, ltb, eqb}
+use Rattle.std.specs.Prelude.{ℕ, ◌+◌, ◌-◌, ◌*◌, Bool, true, cond, not, ◌&&◌, ◌||◌, length, get_or, leb, ltb, eqb}
 use Rattle.std.proofs.Math.Option.{Option, none, some}
-use mathlib.Core.List.{List, [], ◌∷◌, ◌++◌, map, flatten}
+use mathlib.Core.List.{List, [], ◌∷◌, map, flatten}
 use Rattle.model.specs.Lists.{all, sum}
 use Rattle.model.specs.Limits.{no_string, max_level, sentinel_length, max_text, max_pool, max_list, max_layers}
 use Rattle.model.specs.Utf8.{utf8}
@@ -121,13 +121,17 @@ pair_ok size p = span_ok size p.opening && span_ok size p.closing && leb p.openi
 unfoldable pub container_ok : ℕ → ContainerPair → Bool
 container_ok size c = ltb c.opening c.closing && ltb c.closing size
 
+-- Section 4. Diagnostics inside the text. Wish 5. Diagnostics with start equal to end become well formed, also at the text's end.
+unfoldable pub diagnostic_ok : ℕ → Diagnostic → Bool
+diagnostic_ok size d = leb d.span.start d.span.end && leb d.span.end size
+
 -- Number 6. Spans, offsets in images, pairs, containers, diagnostics.
 unfoldable pub places_ok : LexOutput → Bool
 places_ok b =
     all (λ (n : SourceNode). span_ok (length b.sanitized) n.source_span) b.source_nodes && ordered 0 b.source_nodes && offsets_ok 0 0 b.source_nodes
     && all (pair_ok (length b.sanitized)) b.pairs
     && all (container_ok (length b.normalized)) b.container_pairs
-    && all (λ (d : Diagnostic). span_ok (length b.sanitized) d.span) b.diagnostics
+    && all (diagnostic_ok (length b.sanitized)) b.diagnostics
 
 -- ---- 7
 

@@ -2,13 +2,12 @@
 use Rattle.std.specs.Prelude.{◌≡◌, ℕ, Bool, List, take}
 use Rattle.std.proofs.Math.Path.{refl}
 use Rattle.std.proofs.Common.{ap, ◌∙◌}
-use Rattle.model.specs.Lists.{any}
 use Rattle.model.specs.Bytes.{part}
 use Rattle.model.specs.Offset.{Span}
 use Rattle.model.specs.Types.{SourceNode, Diagnostic, RegionOutput}
 use Rattle.model.specs.Tape.{records_at, node_codec, diagnostic_codec, places, book_at}
 use Rattle.model.specs.Region.{Edit}
-use Rattle.model.specs.Merge.{balanced_nodes, is_unclosed, normalized_offset, window_of, cuts_ok}
+use Rattle.model.specs.Merge.{balanced_nodes, normalized_offset, window_of, cuts_ok}
 use Rattle.places.specs.declared.Places.{Places}
 use Rattle.places.specs.Found.{found}
 use Rattle.passage.specs.Window.{ends_on_boundaries, cuts_window}
@@ -34,10 +33,10 @@ module _ (t d : List ℕ) {p : Places} (e : p ≡ found t) where
   pub balanced_book : {x : Bool} → x ≡ balanced_nodes (records_at node_codec t p.nodes.at p.nodes.count) → x ≡ balanced_nodes (book_at t (places t) d).source_nodes
   balanced_book q = q ∙ ap balanced_nodes nodes_found
 
-  -- Number 14.
-  pub unclosed_book : {x : Bool} → x ≡ any is_unclosed (records_at diagnostic_codec t p.diagnostics.at p.diagnostics.count)
-      → x ≡ any is_unclosed (book_at t (places t) d).diagnostics
-  unclosed_book q = q ∙ ap (λ (ds : List Diagnostic). any is_unclosed ds) diagnostics_found
+  -- Number 14, what is asked of the reading's diagnostics and of the old book's.
+  pub diagnostics_book : (f : List Diagnostic → Bool) {x : Bool} → x ≡ f (records_at diagnostic_codec t p.diagnostics.at p.diagnostics.count)
+      → x ≡ f (book_at t (places t) d).diagnostics
+  diagnostics_book f q = q ∙ ap f diagnostics_found
 
   pub offset_book : (o : ℕ) {x : ℕ} → x ≡ normalized_offset (records_at node_codec t p.nodes.at p.nodes.count) o → x ≡ normalized_offset (book_at t (places t) d).source_nodes o
   offset_book o q = q ∙ ap (λ (ns : List SourceNode). normalized_offset ns o) nodes_found

@@ -1,20 +1,23 @@
-// What a reading's records must be, document 01 section 7: what it opens it closes (13), no diagnostic of it tells of a bracket left open or a
-// close left over (14); and where a source offset stands in the normalized text. Numbers 12, 16 and 17 are crate `passage`, 15 is `introduces`.
+// What is asked of the records, document 01 section 7: what a reading opens it closes (13); no diagnostic of it tells of a bracket left open or a
+// close left over, and where the region is empty, no mark of no width of the old book lies there (14; document 02, wish 5); and where a source
+// offset stands in the normalized text. Numbers 12, 16 and 17 are crate `passage`, 15 is `introduces`.
 #![tactic(auto)]
 
 ghost use Rattle.std.specs.Prelude.{◌≡◌, ◌+◌, ◌-◌, ◌*◌, ◌≤◌, ◌<◌, length};
 ghost use Rattle.model.specs.Lists.{any};
 ghost use Rattle.model.specs.Tape.{record_at, records_at, node_codec, diagnostic_codec};
-ghost use Rattle.model.specs.Merge.{balanced_nodes, is_unclosed, normalized_offset};
+ghost use Rattle.model.specs.Merge.{balanced_nodes, is_unclosed, is_mark_at, mark_at_empty_region, normalized_offset};
 ghost use Rattle.bounds.specs.Search.{InOrder};
+ghost use Rattle.span.specs.Values.{span_of};
 ghost use Rattle.reading.specs.Until.{Until};
 
 use bounds::Sums;
 use cuts::Depths;
 use records::{UNCLOSED_BRACKET, UNMATCHED_CLOSE};
+use span::Span;
 
 // That a run lies in its tape is asked at each function. `splice::Section` is a struct of tape, run and this fact, for records that go through
-// several functions of that crate; here a list of the reading is asked once, and its section would be made for one call.
+// several functions of that crate; here a list is asked once, and its section would be made for one call.
 
 // Number 13. `balanced_nodes`: no close falls below 0, and all that opens is closed.
 pub fn balanced_nodes(tape: &[u8], nodes: places::Run) -> bool
@@ -46,6 +49,33 @@ pub fn has_unclosed(tape: &[u8], diagnostics: places::Run) -> bool
     ensures { result ≡ any is_unclosed (records_at diagnostic_codec tape.now diagnostics.at diagnostics.count) }
 {
     (0..diagnostics.count).any(|i| is_unclosed(tape, diagnostics.at + 18 * i))
+}
+
+// Wish 5. One that ends or starts there and has a width is none.
+#[tactic(auto, using(std::proofs::lemmas::Bool::Decides::nat_tests), unfolding(model::specs::Merge::is_mark_at))]
+fn is_mark_at(tape: &[u8], at: usize, place: u32) -> bool
+    requires { at + 18 ≤ length tape.now }
+    ensures { result ≡ is_mark_at place (record_at diagnostic_codec tape.now at) }
+{
+    let d = records::diagnostic_at(tape, at);
+    d.start == place && d.end == place
+}
+
+fn has_mark_at(tape: &[u8], diagnostics: places::Run, place: u32) -> bool
+    requires { diagnostics.at + 18 * diagnostics.count ≤ length tape.now }
+    ensures { result ≡ any (is_mark_at place) (records_at diagnostic_codec tape.now diagnostics.at diagnostics.count) }
+{
+    (0..diagnostics.count).any(|i| is_mark_at(tape, diagnostics.at + 18 * i, place))
+}
+
+// Number 14, wish 5: of the old book's diagnostics, a mark at an empty region. Such a region lies at the text's end; for any other no diagnostic
+// is read.
+#[tactic(auto, unfolding(model::specs::Merge::mark_at_empty_region))]
+pub fn mark_at_empty_region(tape: &[u8], diagnostics: places::Run, region: Span) -> bool
+    requires { diagnostics.at + 18 * diagnostics.count ≤ length tape.now }
+    ensures { result ≡ mark_at_empty_region (records_at diagnostic_codec tape.now diagnostics.at diagnostics.count) (span_of region) }
+{
+    region.is_empty() && has_mark_at(tape, diagnostics, region.start)
 }
 
 // How many nodes end at or before an offset: they are the first ones. One after the other: whoever asks walks over those nodes all the

@@ -21,7 +21,7 @@ pub enum Refusal {
     IdOrRange = 4,
     // levels of segments
     Level = 5,
-    // spans, offsets in images, pairs, containers, diagnostics
+    // spans, offsets in images, pairs, containers, diagnostics; of these only a diagnostic may have start = end (document 02, wish 5)
     Place = 6,
     // normalized length
     NormalizedLength = 7,
@@ -37,7 +37,7 @@ pub enum Refusal {
     OtherText = 12,
     // `balanced_nodes` false
     Unbalanced = 13,
-    // reading has a diagnostic of kind 2 or 3
+    // reading has a diagnostic of kind 2 or 3; or the region is empty, and the old book has a diagnostic of no width at its place (document 02, wish 5)
     Unclosed = 14,
     // `introduces_ruby_format_dependency`
     NewRubyFormatDependency = 15,
@@ -80,7 +80,7 @@ impl fmt::Display for Refusal {
                 "a segment has a wrong level: it is 0 but for a Node segment, whose level is 1 to 32 and above all levels in the runs it names"
             }
             Refusal::Place => {
-                "something lies at an impossible place: look for empty, overlapping or unordered node spans, for spans past the text, for a normalized offset outside of its node's image, and at pairs, containers and diagnostics"
+                "something lies at an impossible place: look for empty, overlapping or unordered node spans, for spans past the text, for a normalized offset outside of its node's image, at pairs and containers, and for a diagnostic whose start is behind its end"
             }
             Refusal::NormalizedLength => {
                 "the normalized text is not as long as the text and the nodes' images make it: an image has 3 bytes, or 7 with padding"
@@ -104,7 +104,7 @@ impl fmt::Display for Refusal {
                 "the reading opens a block or warichu that it does not close, or closes one that it did not open: parse the whole text"
             }
             Refusal::Unclosed => {
-                "the reading has a bracket without its partner (UnclosedBracket or UnmatchedClose): parse the whole text"
+                "the reading has a bracket without its partner (UnclosedBracket or UnmatchedClose): parse the whole text; or text is added at the end of a text that ends in a newline, and the old book has a diagnostic of no width there: let the edit begin at that newline and write it again before the new text, or parse the whole text"
             }
             Refusal::NewRubyFormatDependency => {
                 "the reading has a Ruby and a Referenced Format follows the passage, or it has a Referenced Format whose target is the base of an earlier Ruby: parse the whole text"

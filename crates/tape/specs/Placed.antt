@@ -6,13 +6,12 @@ use Rattle.std.proofs.Math.Bool.{and-false}
 use Rattle.model.specs.Lists.{all}
 use Rattle.model.specs.Types.{LexOutput}
 use Rattle.model.specs.Tape.{places, records_at, book_at, node_codec, pair_codec, container_codec, diagnostic_codec}
-use Rattle.model.specs.WellFormed.{pair_ok, container_ok, places_ok, images, spans, normalized_length_ok}
+use Rattle.model.specs.WellFormed.{pair_ok, container_ok, diagnostic_ok, places_ok, images, spans, normalized_length_ok}
 use Rattle.wire.specs.Loops.{by_bool}
 use Rattle.places.specs.declared.Places.{Places}
 use Rattle.places.specs.Found.{found}
 use Rattle.places.specs.Again.{Frame, lists_inside}
 use Rattle.store.specs.Lengths.{book_lengths}
-use Rattle.bounds.specs.Spans.{diagnostic_inside}
 use Rattle.bounds.specs.Walk.{nodes_in_place, sums_if_placed}
 use Rattle.bounds.specs.declared.Sums.{Sums}
 
@@ -36,7 +35,7 @@ unfoldable pub lists_placed : List ℕ → Places → Bool
 lists_placed t p =
     all (pair_ok p.text) (records_at pair_codec t p.pairs.at p.pairs.count)
     && all (container_ok p.normalized) (records_at container_codec t p.containers.at p.containers.count)
-    && all (diagnostic_inside p.text) (records_at diagnostic_codec t p.diagnostics.at p.diagnostics.count)
+    && all (diagnostic_ok p.text) (records_at diagnostic_codec t p.diagnostics.at p.diagnostics.count)
 
 -- what the code may ask
 pub record PlacesFit (t : List ℕ) (p : Places) : Type 0 where
@@ -100,7 +99,7 @@ module _ (t : List ℕ) (p : Places) {x : Bool} (e : x ≡ all (pair_ok p.text) 
     unfolding lists_placed
     containers_bad h = rw (← g, h, and-false) refl
 
-    pub lists_end_lem : x ≡ true → y ≡ true → {z : Bool} → z ≡ all (diagnostic_inside p.text) (records_at diagnostic_codec t p.diagnostics.at p.diagnostics.count)
+    pub lists_end_lem : x ≡ true → y ≡ true → {z : Bool} → z ≡ all (diagnostic_ok p.text) (records_at diagnostic_codec t p.diagnostics.at p.diagnostics.count)
         → z ≡ lists_placed t p
     unfolding lists_placed
     lists_end_lem f h k = rw (← e, f, ← g, h) k
@@ -110,7 +109,7 @@ module _ (t : List ℕ) (p : Places) {x : Bool} (e : x ≡ all (pair_ok p.text) 
 -- Number 6 of a book's pairs, containers and diagnostics, its texts being so long
 unfoldable lists_ok : ℕ → ℕ → LexOutput → Bool
 lists_ok text normalized b =
-    all (pair_ok text) b.pairs && all (container_ok normalized) b.container_pairs && all (diagnostic_inside text) b.diagnostics
+    all (pair_ok text) b.pairs && all (container_ok normalized) b.container_pairs && all (diagnostic_ok text) b.diagnostics
 
 and_turn : (v x y z : Bool) → v && x && y && z ≡ v && (x && y && z)
 and_turn true x y z = refl
@@ -121,7 +120,7 @@ module _ (b : LexOutput) where
   unfolding places_ok lists_ok
   places_split =
       and_turn (nodes_in_place (length b.sanitized) b.source_nodes) (all (pair_ok (length b.sanitized)) b.pairs)
-      (all (container_ok (length b.normalized)) b.container_pairs) (all (diagnostic_inside (length b.sanitized)) b.diagnostics)
+      (all (container_ok (length b.normalized)) b.container_pairs) (all (diagnostic_ok (length b.sanitized)) b.diagnostics)
 
   lists_six : lists_ok (length b.sanitized) (length b.normalized) b ≡ false → 6 ≡ places_number b
   unfolding places_number

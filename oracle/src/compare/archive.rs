@@ -109,14 +109,13 @@ impl Archive {
     }
 }
 
-pub fn node_at_source(tape: &[u8], bytes: &[u8], offset: u32) -> Option<usize> {
+/// The node, or the number of a book that is none.
+pub fn node_at_source(tape: &[u8], bytes: &[u8], offset: u32) -> Result<Option<usize>, u32> {
     let a = unsafe { aozora_node_at_source(tape.as_ptr(), tape.len(), bytes.as_ptr(), bytes.len(), offset) };
-    assert!(a.number == 0);
-    a.found.then_some(a.node)
+    if a.number == 0 { Ok(a.found.then_some(a.node)) } else { Err(a.number) }
 }
 
-pub fn diagnostics_allow_incremental(tape: &[u8], bytes: &[u8]) -> bool {
+pub fn diagnostics_allow_incremental(tape: &[u8], bytes: &[u8]) -> Result<bool, u32> {
     let a = unsafe { aozora_diagnostics_allow_incremental(tape.as_ptr(), tape.len(), bytes.as_ptr(), bytes.len()) };
-    assert!(a.number == 0);
-    a.allowed
+    if a.number == 0 { Ok(a.allowed) } else { Err(a.number) }
 }

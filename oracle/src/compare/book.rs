@@ -83,6 +83,13 @@ pub struct Diagnostic {
     pub plain: u32,
 }
 
+impl Diagnostic {
+    /// of no width
+    pub fn is_mark(&self) -> bool {
+        self.start == self.end
+    }
+}
+
 #[derive(Clone, Debug, Default, PartialEq)]
 pub struct Book {
     pub text: Vec<u8>,
@@ -170,6 +177,13 @@ impl Book {
         }
         out.extend_from_slice(&self.text[at..]);
         self.norm = out;
+    }
+    /// How many marks of no width are at a place.
+    pub fn marks_at(&self, place: usize) -> usize {
+        self.diagnostics.iter().filter(|d| d.is_mark() && d.start as usize == place).count()
+    }
+    pub fn has_marks(&self) -> bool {
+        self.diagnostics.iter().any(Diagnostic::is_mark)
     }
     pub fn strings(&self) -> usize {
         self.layers.iter().map(|l| l.strings.len()).sum()

@@ -125,6 +125,11 @@ pub fn boundaries(text: &[u8]) -> Vec<usize> {
     (0..=text.len()).filter(|i| text.get(*i).is_none_or(|b| b & 0xc0 != 0x80)).collect()
 }
 
+/// The places behind some bytes: newlines, or the blank lines at which passages may be cut.
+fn behind(text: &[u8], what: &[u8]) -> Vec<usize> {
+    (0..=text.len()).filter(|i| text[..*i].ends_with(what)).collect()
+}
+
 fn hash(s: &[u8]) -> u64 {
     s.iter().fold(0_u64, |h, b| (h.rotate_left(5) ^ u64::from(*b)).wrapping_mul(0x517c_c1b7_2722_0a95))
 }
@@ -451,8 +456,31 @@ impl Gen<'_> {
             let rank = *self.r.pick(&[0, 1, 1, 2, 300, NONE]);
             b.diagnostics.push(Diagnostic { kind: *self.r.pick(kinds), rank, start, end, plain: self.r.word() });
         }
+        if self.r.chance(33) {
+            self.marks(b, kinds);
+        }
         if self.r.chance(30) {
             b.diagnostics.sort_by_key(|d| (d.start, d.end, d.rank));
+        }
+    }
+
+    /// Marks of no width: at both ends and at cuts more often than elsewhere, at a place often several, of few ranks, so that keys are equal.
+    fn marks(&mut self, b: &mut Book, kinds: &[u8]) {
+        let (n, edges) = (b.text.len(), boundaries(&b.text));
+        let [lines, cuts] = [&b"\n"[..], b"\n\n"].map(|s| behind(&b.text, s));
+        for _ in 0..self.r.within(1, 4.max(self.p.others[1])) {
+            let at = match self.r.below(10) {
+                0 | 1 => 0,
+                2 | 3 => n,
+                4..=6 if !cuts.is_empty() => *self.r.pick(&cuts),
+                7 if !lines.is_empty() => *self.r.pick(&lines),
+                8 => self.r.within(0, n),
+                _ => *self.r.pick(&edges),
+            };
+            let rank = *self.r.pick(&[0, 1, 1]);
+            for _ in 0..*self.r.pick(&[1, 1, 1, 2, 3]) {
+                b.diagnostics.push(Diagnostic { kind: *self.r.pick(kinds), rank, start: at as u32, end: at as u32, plain: self.r.word() });
+            }
         }
     }
 
@@ -515,6 +543,12 @@ impl Gen<'_> {
     }
 
     pub fn edit(&mut self, text: &[u8]) -> (u32, u32, Vec<u8>) {
+        let mut cuts = behind(text, b"\n\n");
+        cuts.retain(|at| *at < text.len());
+        if !cuts.is_empty() && self.r.chance(3) {
+            // what is behind a blank line is taken away, so that the reading has no text
+            return (*self.r.pick(&cuts) as u32, text.len() as u32, vec![]);
+        }
         let marks = boundaries(text);
         let mut at = self.r.below(marks.len());
         if self.p.edges || self.r.chance(10) {

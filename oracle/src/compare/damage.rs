@@ -189,10 +189,20 @@ pub const ALL: &[(&str, u32, Damage)] = &[
         let c = some(r, &mut d.book.containers, |_| true)?;
         (c.open, c.close) = *r.pick(&[(c.open, c.open), (c.open, n), (c.close, c.open), (c.open, NONE)]); Some(())
     }),
-    ("diagnostic", 6, |r, d| {
+    ("diagnostic that ends before it starts", 6, |r, d| {
+        let x = some(r, &mut d.book.diagnostics, |_| true)?;
+        let at = x.end.max(1);
+        (x.start, x.end) = *r.pick(&[(at, at - 1), (at, 0), (NONE, at)]); Some(())
+    }),
+    ("diagnostic past the text", 6, |r, d| {
         let n = d.book.text.len() as u32;
         let x = some(r, &mut d.book.diagnostics, |_| true)?;
-        (x.start, x.end) = *r.pick(&[(x.start, x.start), (x.start, n + 1), (x.end, x.start), (x.start, NONE)]); Some(())
+        (x.start, x.end) = *r.pick(&[(x.start, n + 1), (n, n + 1), (x.start, NONE)]); Some(())
+    }),
+    ("mark past the text", 6, |r, d| {
+        let (n, at) = (d.book.text.len() as u32, r.within(0, d.book.diagnostics.len()));
+        let place = *r.pick(&[n + 1, n + 1, NONE]);
+        d.book.diagnostics.insert(at, Diagnostic { kind: 0, rank: r.word(), start: place, end: place, plain: 0 }); Some(())
     }),
     ("normalized length", 7, |r, d| { let s = *r.pick(&["a", "\n", "漢"]); d.book.norm.extend_from_slice(s.as_bytes()); Some(()) }),
     ("normalized length, one less", 7, |_, d| {

@@ -15,6 +15,10 @@ fn page(start: u32, end: u32) -> Node {
     node(1, start, end, Body::new(5, 0, &[]))
 }
 
+fn mark(at: u32) -> Diagnostic {
+    Diagnostic { kind: 0, rank: 0, start: at, end: at, plain: 0 }
+}
+
 /// One layer of these strings, contents and segments.
 fn book(text: &[u8], strings: &[&str], contents: &[Content], segments: Vec<Seg>, nodes: Vec<Node>) -> Book {
     let mut b = Book { nodes, ..Book::plain(text) };
@@ -41,7 +45,9 @@ fn told(said: &Said) -> String {
     match said {
         Said::Merged(m) => {
             let moved = if m.keys_moved { ", equal keys moved" } else { "" };
-            format!("accepted, region {}..{}, {} layers, counts {:?}{moved}", m.region.start, m.region.end, m.book.layers(), m.counts)
+            let marks: Vec<u32> = m.book.marks().collect();
+            let marks = if marks.is_empty() { String::new() } else { format!(", marks of no width at {marks:?}") };
+            format!("accepted, region {}..{}, {} layers, counts {:?}{moved}{marks}", m.region.start, m.region.end, m.book.layers(), m.counts)
         }
         // the reason is that of a book of document 01's shape, and these are not
         Said::None(_) => "None".to_owned(),
@@ -90,6 +96,16 @@ fn same_input() {
     show("edit start > end", &Case::new(&Book::plain(T), 5, 4, b"x", &Book::plain(b"xb\n\n")));
     show("edit end > length", &Case::new(&Book::plain(T), 4, 11, b"x", &Book::plain(b"xb\n\n")));
     blank_line_lost();
+    mark_at_an_empty_region();
+}
+
+/// Document 02, wish 5. The first is the smallest: an empty region is at a text's end, behind a newline.
+fn mark_at_an_empty_region() {
+    for text in ["\n", "aa\n"] {
+        let end = text.len() as u32;
+        let old = Book { diagnostics: vec![mark(end)], ..Book::plain(text.as_bytes()) };
+        show(&format!("mark of no width at an empty region: {text:?}, {end}..{end} with \"x\""), &Case::new(&old, end, end, b"x", &Book::plain(b"x")));
+    }
 }
 
 /// Document 02, wish 1. The first two are the smallest: a cut inside a text has two newlines before it and a byte behind it.
@@ -161,6 +177,7 @@ fn places() {
     put("pair past the text", &Book { pairs: vec![Pair { kind: 0, at: [90, 91, 92, 93] }], ..Book::plain(T) });
     put("container that closes before it opens", &Book { containers: vec![Container { plain: 0, open: 9, close: 3 }], ..Book::plain(T) });
     put("diagnostic that ends before it starts", &Book { diagnostics: vec![Diagnostic { kind: 0, rank: 0, start: 9, end: 5, plain: 0 }], ..Book::plain(T) });
+    put("mark past the text", &Book { diagnostics: vec![mark(11)], ..Book::plain(T) });
     put("normalized text of one byte more", &with(Book::plain(T), |b| b.norm.push(b'a')));
     put("normalized text \"aa\"", &with(Book::plain(T), |b| b.norm.truncate(2)));
     show("32 layers and a reading with nodes", &Case::new(&Book { layers: vec![Layer::default(); 32], ..Book::plain(T) }, 4, 5, b"x", &reading()));

@@ -1,6 +1,6 @@
-//! The merge once more, written from document 01 and wish 1 of document 02, sentence by sentence: numbers 1 to 18 in their order, and the merged book. The
-//! Rust has no answer for 1 to 8 and does not know the wish, so this is the judge there. It is slow and plain on purpose; UTF-8 is the standard library's,
-//! which follows RFC 3629.
+//! The merge once more, written from document 01 and wishes 1 and 5 of document 02, sentence by sentence: numbers 1 to 18 in their order, and the merged
+//! book. The Rust has no answer for 1 to 8 and does not know the wishes, so this is the judge there. It is slow and plain on purpose; UTF-8 is the standard
+//! library's, which follows RFC 3629.
 use crate::book::*;
 use std::collections::HashMap;
 
@@ -281,7 +281,7 @@ fn places_hold(b: &Book) -> bool {
     }
     b.pairs.iter().all(|p| p.at[0] < p.at[1] && p.at[1] <= p.at[2] && p.at[2] < p.at[3] && u64::from(p.at[3]) <= text)
         && b.containers.iter().all(|c| c.open < c.close && u64::from(c.close) < norm)
-        && b.diagnostics.iter().all(|d| d.start < d.end && u64::from(d.end) <= text)
+        && b.diagnostics.iter().all(|d| d.start <= d.end && u64::from(d.end) <= text)
 }
 
 /// 1 to 7, rising
@@ -606,7 +606,8 @@ fn spliced(old: &Book, reading: &Book, nodes: &[Node], layer: Option<Layer>, tex
     let told = |d: &Diagnostic, by: i64| Diagnostic { start: moved(d.start, by), end: moved(d.end, by), ..d.clone() };
     b.diagnostics.extend(old.diagnostics.iter().filter(|d| d.end as usize <= start).cloned());
     b.diagnostics.extend(reading.diagnostics.iter().map(|d| told(d, first)));
-    b.diagnostics.extend(old.diagnostics.iter().filter(|d| d.start as usize >= end).map(|d| told(d, by)));
+    // "otherwise": a mark at the region's start is one before it, and counts once
+    b.diagnostics.extend(old.diagnostics.iter().filter(|d| d.end as usize > start && d.start as usize >= end).map(|d| told(d, by)));
     b.diagnostics.sort_by_key(|d| (d.start, d.end, d.rank));
     b
 }
@@ -624,6 +625,11 @@ fn balanced_nodes(nodes: &[Node]) -> bool {
     depths == [0, 0]
 }
 
+/// "... condition 14 also holds where the region is empty and a mark of no width of the old book lies at its place."
+fn mark_at_empty(old: &Book, region: [usize; 2]) -> bool {
+    region[0] == region[1] && old.marks_at(region[0]) > 0
+}
+
 const STRINGS: usize = 3583;
 const WORK: usize = 16384;
 
@@ -634,7 +640,7 @@ pub fn merge_in_any_room(c: &Case) -> Refused<Answer> {
     let reading = check_reading(&c.rtape, &c.rbytes)?;
     must(12, reading.text == text[region[0]..region[1] + text.len() - old.text.len()])?;
     must(13, balanced_nodes(&reading.nodes))?;
-    must(14, reading.diagnostics.iter().all(|d| d.kind != 2 && d.kind != 3))?;
+    must(14, reading.diagnostics.iter().all(|d| d.kind != 2 && d.kind != 3) && !mark_at_empty(&old, region))?;
     must(15, !introduces_ruby_format_dependency(&old, &reading, region))?;
     must(16, region.iter().all(|cut| is_utf8(&old.norm[..normalized(&old, *cut)])))?;
     must(17, reading.nodes.is_empty() || old.layers.len() < LAYERS)?;

@@ -1,5 +1,6 @@
 //! Every short text over "a", a newline and "あ", every edit; and every place for one or two records in a few texts. The Rust alone is the judge, but for
-//! an edit inside a character or one that ends before it starts (8), and for one that takes away the blank line at the end of the Rust's region (doc01.rs).
+//! an edit inside a character or one that ends before it starts (8), for one that takes away the blank line at the end of the Rust's region (doc01.rs), and
+//! for a mark of no width at an empty region (14, doc01.rs).
 use crate::book::*;
 use crate::books::boundaries;
 use crate::run::Compare;
@@ -93,9 +94,11 @@ pub fn all(compare: &mut Compare, length: usize) {
         edits(compare, classes, &Book::plain(text.as_bytes()), &every, &NEW, Some(Book::plain));
     }
     one_record(compare, length - 2);
+    two_marks(compare, length.saturating_sub(3));
     two_nodes(compare);
     records_across_regions(compare);
     dependencies(compare);
+    mark_before_dependency(compare);
 }
 
 /// One node or one pair anywhere in a short text.
@@ -115,6 +118,30 @@ fn one_record(compare: &mut Compare, length: usize) {
     }
 }
 
+/// Marks of no width and one rank, told apart by their plain words.
+fn with_marks(text: &[u8], kind: u8, first: u32, places: &[usize]) -> Book {
+    let mark = |(i, at): (usize, &usize)| Diagnostic { kind, rank: 1, start: *at as u32, end: *at as u32, plain: first + i as u32 };
+    Book { diagnostics: places.iter().enumerate().map(mark).collect(), ..Book::plain(text) }
+}
+
+/// A reading with marks at both ends, the later one first.
+fn marked_at_ends(text: &[u8]) -> Book {
+    with_marks(text, 4, 10, &[text.len(), 0])
+}
+
+/// Merges of short texts with every two marks, the later one first; all keys of a place are equal. A mark of the old book may be of any kind.
+fn two_marks(compare: &mut Compare, length: usize) {
+    let classes = ["short texts with two marks, regions", "short texts with two marks, merges"];
+    for text in texts(length).iter().map(String::as_bytes) {
+        let marks = boundaries(text);
+        for (i, first) in marks.iter().enumerate() {
+            for last in &marks[i..] {
+                edits(compare, classes, &with_marks(text, 2, 0, &[*last, *first]), &marks, &NEW, Some(marked_at_ends));
+            }
+        }
+    }
+}
+
 const FOUR: &[u8] = b"a\n\na\n\na\n\na";
 
 /// Two one-byte nodes of every two sorts anywhere in four passages.
@@ -129,11 +156,14 @@ fn two_nodes(compare: &mut Compare) {
     }
 }
 
-/// Merges of four passages with one node, pair, container or diagnostic anywhere.
+/// Merges of four passages with one node, pair, container, diagnostic or mark of no width anywhere.
 fn records_across_regions(compare: &mut Compare) {
     let classes = ["one record in four passages, regions", "one record in four passages, merges"];
     let marks: Vec<usize> = (0..=FOUR.len()).collect();
     let new = ["x", "", "\n", "x\n"];
+    for at in &marks {
+        edits(compare, classes, &with_marks(FOUR, 3, 0, &[*at]), &marks, &new, Some(marked_at_ends));
+    }
     for (start, end) in spans(&marks) {
         let at = [start, end].map(|n| n as u32);
         for n in sorts(start, end) {
@@ -180,6 +210,19 @@ fn dependencies(compare: &mut Compare) {
         let classes = ["a Ruby or a Format, regions", "a Ruby or a Format, the other in the reading"];
         for (kind, read) in [(1, format_first as Read), (2, ruby_first), (1, ruby_first), (2, format_first)] {
             edits(compare, classes, &linked(FOUR, &[(kind, i, j)]), &marks, &FEW, Some(read));
+        }
+    }
+}
+
+/// 14 before 15: a Ruby and a mark of no width anywhere in a text that ends with a newline, a Format of the Ruby's string in the reading.
+fn mark_before_dependency(compare: &mut Compare) {
+    let classes = ["a Ruby and a mark, regions", "a Ruby and a mark, a Format in the reading"];
+    let text = b"a\n\na\n";
+    let marks: Vec<usize> = (0..=text.len()).collect();
+    for (start, end) in spans(&marks) {
+        for at in &marks {
+            let diagnostics = with_marks(text, 4, 0, &[*at]).diagnostics;
+            edits(compare, classes, &Book { diagnostics, ..linked(text, &[(1, start, end)]) }, &marks, &FEW, Some(format_first));
         }
     }
 }

@@ -180,6 +180,7 @@ fn rooms(compare: &mut Compare, r: &mut Rng, b: &Base, tape: usize, bytes: usize
 fn one(compare: &mut Compare, profile: &Profile, seed: u64, i: u64) {
     let mut g = Gen::new(Rng::new(seed, i), profile);
     let b = base(&mut g);
+    compare.count_marks(&b.old, &b.reading);
     let out = compare.run(profile.name, &b.case(), None, None, &mut g.r);
     let reached = !matches!(out, Outcome::Refused(n) if n < 12);
     let sizes = match &out {

@@ -17,7 +17,7 @@ pub struct Tally {
     pub refused: [u64; 19],
     /// cases that were put to the Rust
     pub rust: u64,
-    /// cases that wish 1 of document 02 leaves to the list of differences: doc01.rs alone is the judge
+    /// cases that wishes 1 and 5 of document 02 leave to the list of differences: doc01.rs alone is the judge
     pub left: u64,
     /// those of them that are accepted
     pub left_accepted: u64,
@@ -38,9 +38,12 @@ pub struct Compare {
     classes: Vec<(&'static str, Tally)>,
     aims: HashMap<&'static str, u64>,
     pub differences: u64,
-    /// two of the listed differences; the third is `left`
+    /// three of the listed differences; the fourth is what else is `left`
     keys_moved: u64,
     earlier_counts: u64,
+    marks_touched: u64,
+    /// books of the seed that have marks of no width, and their readings
+    marked: [u64; 2],
     lookups: u64,
     regions_of_books: u64,
     /// what accepted merges met
@@ -48,16 +51,27 @@ pub struct Compare {
     pub sample: Option<Sample>,
 }
 
-const MET: [&str; 18] = [
+const MET: [&str; 26] = [
     "a new layer", "a cache hit", "a table hit", "a string over 64 bytes", "a table of 512", "a table of 1024 or more", "more probes than strings asked of the table",
     "level 32 in the new layer", "runs in runs, 8 deep or more", "runs in runs, 32 deep", "32 layers in the result", "an empty region", "a region at the text's start", "a region at its end",
     "an old node dropped", "an old pair dropped", "an old container dropped", "an old diagnostic dropped",
+    "marks of no width in the result", "an old mark at the region's start", "an old mark at its end", "an old mark dropped", "a mark at the reading's start", "a mark at its end",
+    "marks of a reading without text", "marks of equal keys from two lists",
 ];
 
 /// How deep the runs of the reading's nodes go.
 fn depth(reading: &doc01::Pools, b: &crate::book::Body) -> usize {
     let inner = |(a, n): (u32, u32)| reading.segments(a, n).iter().map(|s| if s.tag == 3 { 1 + depth(reading, &s.body) } else { 1 }).max().unwrap_or(0);
     reading.runs(b).into_iter().map(inner).max().unwrap_or(0)
+}
+
+/// Whether marks of equal keys come from two lists: at a cut of the old book's and of the reading's, or, where the reading has no text, of the old book's at both.
+fn equal_keys(old: &crate::book::Book, reading: &crate::book::Book, region: [usize; 2]) -> bool {
+    let ranks = |b: &crate::book::Book, at: usize| -> Vec<u32> { b.diagnostics.iter().filter(|d| d.is_mark() && d.start as usize == at).map(|d| d.rank).collect() };
+    let meet = |a: &[u32], b: &[u32]| a.iter().any(|rank| b.contains(rank));
+    let last = reading.text.len();
+    let ([before, behind], first, end) = (region.map(|at| ranks(old, at)), ranks(reading, 0), ranks(reading, last));
+    meet(&before, &first) || meet(&end, &behind) || last == 0 && meet(&before, &behind)
 }
 
 /// A graft of more items than this is not put to the Rust, which has no limit.
@@ -89,19 +103,45 @@ fn blank_line_lost(book: &Book, c: &Case) -> bool {
     cut == edit.end + 1 && cut < old.len() && old[..cut].ends_with("\n\n") && !new[..cut + new.len() - old.len()].ends_with("\n\n")
 }
 
+/// Document 02, wish 5: whether the Rust's region is empty and a mark of no width of the old book lies at its place. The Rust does not ask that.
+fn mark_touched(book: &Book, c: &Case) -> bool {
+    if book.marks().next().is_none() {
+        return false;
+    }
+    let replacement = std::str::from_utf8(&c.replacement).expect("passed number 2");
+    let Ok(Ok(region)) = catch_unwind(AssertUnwindSafe(|| judge::region(book, c.start as usize..c.end as usize, replacement))) else { return false };
+    region.is_empty() && book.marks().any(|at| at as usize == region.start)
+}
+
+/// What the Rust is listed to answer then: the marks at the old text's end are there twice, at their place and moved to the new text's end; or it says no for
+/// 15. Of 16 there is nothing to say no to: the cuts are the normalized text's end.
+fn marks_twice(c: &Case, theirs: &Result<Answer, u32>) -> bool {
+    let Ok(a) = theirs else { return *theirs == Err(15) };
+    let [old, reading, new] = [(&c.tape, &c.bytes), (&c.rtape, &c.rbytes), (&a.tape, &a.bytes)].map(|(t, b)| doc01::read(t, b).expect("a book"));
+    let (before, end) = (old.text.len(), new.text.len());
+    let marks = old.marks_at(before);
+    new.marks_at(before) == marks + reading.marks_at(0)
+        && new.marks_at(end) == marks + reading.marks_at(reading.text.len())
+        && new.diagnostics.len() == old.diagnostics.len() + marks + reading.diagnostics.len()
+}
+
 /// The same new text by a longer edit, which writes the newline behind the edit once more. No blank line is lost, so that the Rust's region is the wish's.
 fn longer(c: &Case, room: Option<Room>) -> Case {
     Case { end: c.end + 1, replacement: [&c.replacement[..], b"\n"].concat(), room, ..c.clone() }
 }
 
-/// The Rust's answer; anything else than a merge or a number is a difference.
-fn rust_alone(book: &Book, c: &Case) -> Result<Result<Answer, u32>, Said> {
-    let reading = Reading::read(&c.rtape, &c.rbytes).expect("a generated reading");
-    match judge(book, c.start as usize..c.end as usize, std::str::from_utf8(&c.replacement).expect("generated text"), &reading) {
+/// Anything else than a merge or a number is a difference.
+fn answered(said: Said) -> Result<Result<Answer, u32>, Said> {
+    match said {
         Said::Merged(m) => Ok(Ok(answer_of(&m))),
         Said::None(n) => Ok(Err(n)),
         other => Err(other),
     }
+}
+
+fn rust_alone(book: &Book, c: &Case) -> Result<Result<Answer, u32>, Said> {
+    let reading = Reading::read(&c.rtape, &c.rbytes).expect("a generated reading");
+    answered(judge(book, c.start as usize..c.end as usize, std::str::from_utf8(&c.replacement).expect("generated text"), &reading))
 }
 
 /// What is lent to a case that does not say: what the answer needs and a little more, or any little for a refusal.
@@ -208,9 +248,16 @@ impl Compare {
         if blank_line_lost(book, c) { self.leave(class, c, book, room, said) } else { self.rust(class, c, book, room, said) }
     }
 
+    /// Whether a book of the seed and its reading have marks of no width.
+    pub fn count_marks(&mut self, old: &crate::book::Book, reading: &crate::book::Book) {
+        for (n, b) in self.marked.iter_mut().zip([old, reading]) {
+            *n += u64::from(b.has_marks());
+        }
+    }
+
     fn lookups(&mut self, class: &'static str, c: &Case, book: &Book, r: &mut Rng) {
         let offset = r.below(book.text().len() + 2) as u32;
-        let theirs = (judge::node_at_source(book, offset), judge::diagnostics_allow_incremental(book));
+        let theirs = (Ok(judge::node_at_source(book, offset)), Ok(judge::diagnostics_allow_incremental(book)));
         let ours = (archive::node_at_source(&c.tape, &c.bytes, offset), archive::diagnostics_allow_incremental(&c.tape, &c.bytes));
         self.lookups += 1;
         if ours != theirs {
@@ -236,12 +283,18 @@ impl Compare {
         if number == 18 && doc01::read(&c.rtape, &c.rbytes).is_ok_and(|b| doc01::adds(&b).iter().any(|n| *n > MOST)) {
             return Outcome::Refused(number);
         }
-        self.tally(class).rust += 1;
         let Some(reading) = Reading::read(&c.rtape, &c.rbytes) else {
             self.differ(class, "the Rust's types have no such reading", Some(c));
             return Outcome::Refused(number);
         };
         let theirs = judge(book, edit, replacement, &reading);
+        // 12, 13 and the reading's own 14 are the Rust's too
+        if !matches!(theirs, Said::OtherText | Said::None(13 | 14)) && mark_touched(book, c) {
+            self.tally(class).left += 1;
+            self.touched(class, c, number, &answered(theirs));
+            return Outcome::Refused(number);
+        }
+        self.tally(class).rust += 1;
         match (said, theirs) {
             (Ok(a), Said::Merged(m)) => {
                 self.keys_moved += u64::from(m.keys_moved);
@@ -275,6 +328,15 @@ impl Compare {
         Outcome::Refused(number)
     }
 
+    /// A mark of no width at an empty region, left to the list of differences: document 01 alone judges it, and says 14.
+    fn touched(&mut self, class: &'static str, c: &Case, said: u32, theirs: &Result<Result<Answer, u32>, Said>) {
+        self.marks_touched += 1;
+        if said != 14 || !theirs.as_ref().is_ok_and(|a| marks_twice(c, a)) {
+            let theirs = theirs.as_ref().map_or_else(|other| format!("{other:?}"), short);
+            self.differ(class, &format!("a mark at an empty region: document 01 {said} the Rust {theirs}"), Some(c));
+        }
+    }
+
     /// A case that is left to the list of differences: document 01 alone judges it. The longer edit is one more case, with the same answer.
     fn leave(&mut self, class: &'static str, c: &Case, book: &Book, room: Room, said: Result<Answer, u32>) -> Outcome {
         let t = self.tally(class);
@@ -294,12 +356,16 @@ impl Compare {
         let pools = doc01::Pools::of(&reading);
         let deep = reading.nodes.iter().filter(|n| n.class < 2).map(|n| depth(&pools, &n.body)).max().unwrap_or(0);
         let (n, fresh) = (a.counts, new.layers.len() > old.layers.len());
+        let ([start, end], last) = (a.region.map(|n| n as usize), reading.text.len());
+        let dropped = old.diagnostics.iter().any(|d| d.is_mark() && start < d.start as usize && (d.start as usize) < end);
         let level = new.layers.last().filter(|_| fresh).is_some_and(|l| l.segments.iter().any(|s| s.level == 32));
         let met = [
             fresh, n[1] > 0, n[2] > 0, n[4] > 0, n[5] > 0, n[5] > 1, n[6] > n[0] - n[1] - n[4],
             level, deep >= 8, deep >= 32, new.layers.len() == 32, a.region[0] == a.region[1], a.region[0] == 0, a.region[1] as usize == old.text.len(),
             (a.reused as usize) < old.nodes.len(), new.pairs.len() < old.pairs.len() + reading.pairs.len(),
             new.containers.len() < old.containers.len() + reading.containers.len(), new.diagnostics.len() < old.diagnostics.len() + reading.diagnostics.len(),
+            new.has_marks(), old.marks_at(start) > 0, old.marks_at(end) > 0, dropped, reading.marks_at(0) > 0, reading.marks_at(last) > 0,
+            last == 0 && reading.has_marks(), equal_keys(&old, &reading, [start, end]),
         ];
         for (count, met) in self.met.iter_mut().zip(met) {
             *count += u64::from(met);
@@ -341,16 +407,25 @@ impl Compare {
         Some((ours.ok()?, left))
     }
 
-    /// A merge without document 01's check: ours and the Rust. `left`: ours and document 01, and the Rust by a longer edit.
+    /// A merge without document 01's check: ours and the Rust. `left`: ours and document 01, and the Rust by a longer edit. Where a mark of no width is at an
+    /// empty region: 14, which is document 01's.
     pub fn merge(&mut self, class: &'static str, c: &Case, book: &Book, room: Room, left: bool) {
-        let said = match if left { rust_alone(book, &longer(c, None)) } else { rust_alone(book, c) } {
+        let theirs = if left { rust_alone(book, &longer(c, None)) } else { rust_alone(book, c) };
+        let document = || doc01::in_room(doc01::merge_in_any_room(c), room);
+        let touched = mark_touched(book, c);
+        let said = match theirs {
+            theirs if touched => {
+                let said = document();
+                self.touched(class, c, said.as_ref().err().copied().unwrap_or(0), &theirs);
+                said
+            }
             Ok(said) => said,
             Err(other) => return self.differ(class, &format!("the Rust {other:?}"), Some(c)),
         };
-        if left && said != doc01::in_room(doc01::merge_in_any_room(c), room) {
+        if left && said != document() {
             self.differ(class, &format!("by a longer edit another answer: {}", short(&said)), Some(c));
         }
-        self.count(class, said.as_ref().err().copied(), left);
+        self.count(class, said.as_ref().err().copied(), left || touched);
         match self.ours(c, room) {
             Err(what) => self.differ(class, &what, Some(c)),
             Ok(ours) if ours != said => self.differ(class, &format!("ours {} the judge {}", short(&ours), short(&said)), Some(c)),
@@ -398,7 +473,9 @@ impl Compare {
             let t = sum(self.classes.iter().map(|c| &c.1).filter(|t| t.regions == regions));
             println!("\n{what}: {}, put to the Rust {}, left {}; accepted {}, of them by the Rust {}", t.cases, t.rust, t.left, t.accepted, t.accepted - t.left_accepted);
         }
-        println!("\nlisted differences: equal keys in another order {}, counts of an earlier merge {}, blank line lost at the end cut {}", self.keys_moved, self.earlier_counts, all.left);
+        println!("\nlisted differences: equal keys in another order {}, counts of an earlier merge {}", self.keys_moved, self.earlier_counts);
+        println!("left to the list of differences: blank line lost at the end cut {}, mark of no width at an empty region {}", all.left - self.marks_touched, self.marks_touched);
+        println!("marks of no width: in {} of the {count} books, in {} of their readings", self.marked[0], self.marked[1]);
         println!("lookups: {}, regions of books by document 01: {}", self.lookups, self.regions_of_books);
         let met: Vec<String> = MET.iter().zip(self.met).map(|(what, n)| format!("{what} {n}")).collect();
         println!("accepted merges with {}", met.join(", "));

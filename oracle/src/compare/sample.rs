@@ -8,7 +8,7 @@ use std::path::Path;
 /// how often each thing is wanted, a refusal twice as often
 const TIMES: u32 = 4;
 const CASES: usize = 399;
-const BYTES: usize = 233_000;
+const BYTES: usize = 234_000;
 
 #[derive(Default)]
 pub struct Sample {

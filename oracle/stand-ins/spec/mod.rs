@@ -26,8 +26,9 @@ pub(crate) struct DiagnosticRest {
     pub(crate) code: [u8; 10],
     pub(crate) rank: u32,
     pub(crate) plain: u32,
-    /// the place in its list, to put equal keys in their order again
-    pub(crate) place: usize,
+    /// to put equal keys in their order again: its list as a merge joins them (0 the old book's before the region, 1 the reading's, 2 the old
+    /// book's behind it) and the place there
+    pub(crate) place: (u8, u32),
 }
 
 #[derive(Debug, Clone)]
@@ -40,14 +41,14 @@ pub(crate) enum Diagnostic {
 }
 
 impl Diagnostic {
-    pub(crate) fn new(kind: u8, rank: u32, span: Span, plain: u32, place: usize) -> Option<Self> {
+    pub(crate) fn new(kind: u8, rank: u32, span: Span, plain: u32, place: u32) -> Option<Self> {
         let mut code = [b'0'; 10];
         let mut left = rank;
         for digit in code.iter_mut().rev() {
             *digit += (left % 10) as u8;
             left /= 10;
         }
-        let rest = DiagnosticRest { span, code, rank, plain, place };
+        let rest = DiagnosticRest { span, code, rank, plain, place: (0, place) };
         Some(match kind {
             0 => Self::UnresolvedGaiji { rest },
             1 => Self::NonCanonicalDirective { rest },
@@ -66,8 +67,12 @@ impl Diagnostic {
             | Self::Other { rest } => rest,
         }
     }
-    pub(crate) fn set_place(&mut self, place: usize) {
+    pub(crate) fn set_place(&mut self, place: (u8, u32)) {
         self.rest_mut().place = place;
+    }
+    /// One of a reading, not of a book.
+    pub(crate) fn set_read(&mut self) {
+        self.rest_mut().place.0 = 1;
     }
     fn rest_mut(&mut self) -> &mut DiagnosticRest {
         match self {
@@ -96,6 +101,10 @@ impl Diagnostic {
     pub(crate) fn shifted(mut self, by: i64) -> Self {
         let rest = self.rest_mut();
         rest.span = rest.span.shifted(by);
+        // a merge moves the reading's, and of the old book's those behind the region alone
+        if rest.place.0 == 0 {
+            rest.place.0 = 2;
+        }
         self
     }
 }

@@ -524,15 +524,17 @@ fn lists(b: &mut BookBuilder, r: &mut Random) {
                 close: NormalizedOffset(close),
             });
         }
-        if let Some(&[start, end]) = places(r, text, 2).as_deref() {
-            b.diagnostic(Diagnostic {
-                kind: r.pick(DiagnosticKind::ALL),
-                code_rank: r.word(),
-                span: Span::new(start, end),
-                plain: r.word(),
-            });
-        }
+        let kind = r.pick(DiagnosticKind::ALL);
+        diagnostic(b, kind, r);
     }
+}
+
+/// A diagnostic somewhere in the text so far, often of no width, and at the text's end too.
+pub fn diagnostic(b: &mut BookBuilder, kind: DiagnosticKind, r: &mut Random) {
+    let start = r.below(b.text_len() + 1);
+    let end = start + r.below((b.text_len() - start).min(2) + 1);
+    let span = Span::new(start as u32, end as u32);
+    b.diagnostic(Diagnostic { kind, code_rank: r.word(), span, plain: r.word() });
 }
 
 /// What may be named: all strings, and the runs of the layer with the highest level in them.

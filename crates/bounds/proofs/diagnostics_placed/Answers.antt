@@ -1,13 +1,13 @@
 use Rattle.std.proofs.Common.{ℕ, ◌+◌, ◌*◌, refl, ◌∙◌, rules}
 use Rattle.model.specs.Tape.{record_at, operands_at, diagnostic_codec}
+use Rattle.model.specs.WellFormed.{diagnostic_ok}
 use Rattle.model.specs.Lookup.{diagnostics_allow_incremental}
 use Rattle.wire.proofs.Ranges.{range_all}
 use Rattle.records.specs.Runs.{run_all}
-use Rattle.bounds.specs.Spans.{diagnostic_inside}
 use Rattle.bounds.proofs.diagnostics_placed.Goals as goal
 
 pub returns : goal.returns
 unfolding diagnostic_codec record_at operands_at diagnostics_allow_incremental
 returns c =
-    range_all _ _ _ _ (λ (i : ℕ). (diagnostic_inside c.args.size) (record_at diagnostic_codec c.args.tape.now (c.args.diagnostics.at + 18 * i))) refl (λ x b q k. search rules) _ c.all.ensures.ran
-    ∙ run_all diagnostic_codec (diagnostic_inside c.args.size) c.args.tape.now c.args.diagnostics.at c.args.diagnostics.count 18 refl
+    range_all _ _ _ _ (λ (i : ℕ). (diagnostic_ok c.args.size) (record_at diagnostic_codec c.args.tape.now (c.args.diagnostics.at + 18 * i))) refl (λ x b q k. search rules) _ c.all.ensures.ran
+    ∙ run_all diagnostic_codec (diagnostic_ok c.args.size) c.args.tape.now c.args.diagnostics.at c.args.diagnostics.count 18 refl

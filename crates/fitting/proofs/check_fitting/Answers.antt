@@ -1,7 +1,10 @@
+use Rattle.std.proofs.Common.{refl, sym, ◌∙◌}
 use native.Mathlib.Omega.{arith}
 use Rattle.model.specs.Region.{edit_of}
+use Rattle.laws.specs.Lists.{or_left, or_right}
 use Rattle.fitting.specs.Reading.{held_texts, held_nodes, held_diagnostics, region_asked, passage_asked, refused_12, refused_13, refused_14, refused_cut}
 use Rattle.fitting.proofs.check_fitting.Goals as goal
+use Rattle.fitting.proofs.check_fitting.Goals.{then-has_unclosed-via-then-has_unclosed, then-has_unclosed-via-else-has_unclosed+then-mark_at_empty_region}
 
 pub slice_bounds-text-end : goal.slice_bounds-text-end
 slice_bounds-text-end c =
@@ -58,16 +61,18 @@ has_unclosed-requires c =
     let start = c in
     held_diagnostics start.requires.read.held
 
+pub mark_at_empty_region-requires : goal.mark_at_empty_region-requires
+mark_at_empty_region-requires c =
+    held_diagnostics c.requires.read.given.held
+
 pub returns-then-has_unclosed : goal.returns-then-has_unclosed
 unfolding edit_of
 returns-then-has_unclosed c =
-    let at-balanced-nodes = c in
-    let at-if1 = at-balanced-nodes in
-    let at-is-region-text = at-if1 in
-    let at-region-text = at-is-region-text in
-    let start = at-region-text in
-    refused_14 start.requires.read at-region-text.region_text-old_text.ensures at-is-region-text.is_region_text.ensures at-if1.if-not-is_region_text.false at-balanced-nodes.balanced_nodes.ensures
-    c.if-not-balanced_nodes.false c.has_unclosed.ensures c.if-has_unclosed.true
+    refused_14 c.requires.read c.region_text-old_text.ensures c.is_region_text.ensures c.if-not-is_region_text.false c.balanced_nodes.ensures c.if-not-balanced_nodes.false c.has_unclosed.ensures refl
+    (elim c.then-has_unclosed.branch [
+      | then-has_unclosed-via-then-has_unclosed w ↦ or_left _ _ w.if-has_unclosed.true
+      | then-has_unclosed-via-else-has_unclosed+then-mark_at_empty_region w ↦ or_right _ _ (sym w.mark_at_empty_region.ensures ∙ w.if-mark_at_empty_region.true)
+    ])
 
 pub check_cuts-requires : goal.check_cuts-requires
 check_cuts-requires c =
@@ -80,13 +85,5 @@ check_cuts-requires c =
 pub returns : goal.returns
 unfolding edit_of
 returns c =
-    let at-if3 = c in
-    let at-has-unclosed = at-if3 in
-    let at-if2 = at-has-unclosed in
-    let at-balanced-nodes = at-if2 in
-    let at-if1 = at-balanced-nodes in
-    let at-is-region-text = at-if1 in
-    let at-region-text = at-is-region-text in
-    let start = at-region-text in
-    refused_cut start.requires.read at-region-text.region_text-old_text.ensures at-is-region-text.is_region_text.ensures at-if1.if-not-is_region_text.false at-balanced-nodes.balanced_nodes.ensures
-    at-if2.if-not-balanced_nodes.false at-has-unclosed.has_unclosed.ensures at-if3.if-has_unclosed.false (c.check_cuts.ensures _)
+    refused_cut c.requires.read c.region_text-old_text.ensures c.is_region_text.ensures c.if-not-is_region_text.false c.balanced_nodes.ensures c.if-not-balanced_nodes.false
+    c.has_unclosed.ensures c.mark_at_empty_region.ensures c.if-has_unclosed.false c.if-mark_at_empty_region.false (c.check_cuts.ensures _)
