@@ -51,7 +51,7 @@ pub fn has_unclosed(tape: &[u8], diagnostics: places::Run) -> bool
     (0..diagnostics.count).any(|i| is_unclosed(tape, diagnostics.at + 18 * i))
 }
 
-// Wish 5. One that ends or starts there and has a width is none.
+// Wish 5. One that has a width and starts or ends there is no mark.
 #[tactic(auto, using(std::proofs::lemmas::Bool::Decides::nat_tests), unfolding(model::specs::Merge::is_mark_at))]
 fn is_mark_at(tape: &[u8], at: usize, place: u32) -> bool
     requires { at + 18 ≤ length tape.now }
