@@ -21,8 +21,8 @@
 extern "C" {
 #endif
 
-/* How many work words aozora_merge, aozora_merge_for_desk and aozora_merge_both_orders are lent at least. With two words for each node of a
-   book of more than 30,000, numbers 10 and 15 are faster. */
+/* How many work words aozora_merge, aozora_merge_for_desk, aozora_merge_both_orders and aozora_flatten_book are lent at least. With two words for
+   each node of a book of more than 30,000, a merge's numbers 10 and 15 are faster; with one more for each string, a flattening of a book of many. */
 #define AOZORA_WORK_WORDS 16384
 /* how many desks there can be (their numbers are 0 to 63), and so how many totals a ledger has */
 #define AOZORA_DESKS 64
@@ -52,7 +52,7 @@ enum aozora_refusal {
     AOZORA_UNCLOSED = 14,                   /* reading has a diagnostic of kind 2 or 3; or the region is empty, and the old book has a diagnostic of no width at its place */
     AOZORA_NEW_RUBY_FORMAT_DEPENDENCY = 15, /* introduces_ruby_format_dependency */
     AOZORA_CUT_IN_CHARACTER = 16,           /* a cut falls inside a normalized character */
-    AOZORA_LAYERS_FULL = 17,                /* reading has nodes, old book 32 layers */
+    AOZORA_LAYERS_FULL = 17,                /* reading has nodes, old book 32 layers; aozora_flatten_book makes them one, with new ids */
     AOZORA_NO_ROOM = 18,                    /* result passes a limit of 3 or has over 3583 new strings, a buffer is too short, under 16384 work words */
     AOZORA_DESK_OR_LEDGER = 19,             /* desk above 63, or a ledger without exactly 64 totals */
     AOZORA_TOTAL_FULL = 20                  /* the desk's total would pass 4294967295 */
@@ -78,8 +78,8 @@ static inline const char *aozora_refusal_message(uint32_t number) {
     case AOZORA_UNCLOSED: return "the reading has a bracket without its partner (UnclosedBracket or UnmatchedClose): parse the whole text; or text is added at the end of a text that ends in a newline, and the old book has a diagnostic of no width there: let the edit begin at that newline and write it again before the new text, or parse the whole text";
     case AOZORA_NEW_RUBY_FORMAT_DEPENDENCY: return "the reading has a Ruby and a Referenced Format follows the passage, or it has a Referenced Format whose target is the base of an earlier Ruby: parse the whole text";
     case AOZORA_CUT_IN_CHARACTER: return "the passage begins or ends inside a character of the normalized text: the normalized text is not the images of the nodes";
-    case AOZORA_LAYERS_FULL: return "the book has 32 layers already and the reading would add one: parse the whole text, which gives a book of one layer";
-    case AOZORA_NO_ROOM: return "the result does not fit: a result buffer is too short, fewer than 16384 work words are lent, the merged book passes a limit, or its new layer has more than 3583 strings";
+    case AOZORA_LAYERS_FULL: return "the book has 32 layers already and the reading would add one: flatten the book and merge again, or parse the whole text; either gives a book of one layer with new ids and ranges";
+    case AOZORA_NO_ROOM: return "the result does not fit: a result buffer is too short, fewer than 16384 work words are lent, the merged or flat book passes a limit, or its new layer has more than 3583 strings";
     case AOZORA_DESK_OR_LEDGER: return "there is no such desk, or the ledger has another length: desks are 0 to 63, and a ledger has exactly 64 totals";
     case AOZORA_TOTAL_FULL: return "the desk's total would pass 4294967295: write the invoice and begin a new ledger";
     default: return "not the number of a refusal";
@@ -95,7 +95,7 @@ typedef struct { uint32_t number; bool found; size_t node; } aozora_node;
 typedef struct { uint32_t number; bool found; size_t place; uint32_t count; } aozora_range;
 /* where the string starts and ends in the byte buffer */
 typedef struct { uint32_t number; bool found; size_t start, end; } aozora_str;
-/* how many bytes of the two result buffers the copy takes */
+/* how many bytes of the two result buffers the copy takes, or the flat book */
 typedef struct { uint32_t number; size_t tape, bytes; } aozora_copy;
 /* the region in offsets of the old text */
 typedef struct { uint32_t number; uint32_t start, end; } aozora_region;
@@ -133,6 +133,25 @@ aozora_range aozora_lookup_segments(const uint8_t *tape, size_t tape_len, const 
 /* Both result buffers are written whole: the copy and zeros behind it, or zeros after a refusal, 1 to 7 or 18. */
 aozora_copy aozora_copy_book(const uint8_t *tape, size_t tape_len, const uint8_t *bytes, size_t bytes_len,
                              uint8_t *out_tape, size_t out_tape_len, uint8_t *out_bytes, size_t out_bytes_len);
+
+/* The book with one layer, for after 17. Where number is 0, keep the result, of lengths tape and bytes, in the book's place and merge the same
+   edit and reading again; where it is not, keep the old book: the result buffers are zeros. The trees of the nodes are grafted in order into one
+   fresh layer, and what no node names is gone; a book without nodes keeps one empty layer. Texts, spans, lists in their order and trees are equal
+   before and after. Ids are not: every string id and range given out before ends here (an old id may show another string in the flat book), and
+   those of the flat book hold until it is flattened in turn. Two books that show the same are the same bytes once they are flat, so both orders
+   of two separate corrections give one book; and a flat book flattened again is itself. Nothing is reread or charged.
+   Both result buffers are written whole: the flat book and zeros behind it, or zeros after a refusal, 1 to 7 or 18. The words, AOZORA_WORK_WORDS
+   at least, come back as zeros.
+   18: a result buffer is too short or words are too few; or the flat layer would have more than 3583 strings or more than 1048575 contents or
+   segments: then parse the whole text, or first merge corrections whose readings have no nodes, which 17 does not refuse and which may take enough
+   away. Equal strings of up to 64 bytes are stored once. A longer string, and a run of contents or segments, is stored each time that it is named;
+   only a long string that is named twice in a row is stored once for both.
+   Result buffers as long as the old tape and bytes are enough where no content, no segment and no string of more than 64 bytes is named twice. No
+   merge names a content or segment twice in what it adds. On 18 lend more and ask again, but no more than this: with AOZORA_WORK_WORDS words, a
+   result tape of tape_len + 49300940 bytes and a byte buffer of bytes_len + 3583 times the longest string (bytes_len, where no string has more than
+   64 bytes) are enough for every book that can be flattened. */
+aozora_copy aozora_flatten_book(const uint8_t *tape, size_t tape_len, const uint8_t *bytes, size_t bytes_len,
+                                uint8_t *out_tape, size_t out_tape_len, uint8_t *out_bytes, size_t out_bytes_len, uint32_t *work, size_t work_len);
 
 /* A number 1 to 11, or the region, which ends behind a blank line that is still there in the new text, or at the text's end. The words may be any
    number, also none; more make it faster. They come back as zeros. */

@@ -1,4 +1,5 @@
-/* Document 01's P5 priced and merged, also for a desk, a damaged tape refused, two corrections in both orders, diagnostics of no width, and what else can be asked of a book.
+/* Document 01's P5 priced and merged, also for a desk, a damaged tape refused, two corrections in both orders, diagnostics of no width, a book of 32 layers
+   flattened, and what else can be asked of a book.
    From the repository's root:
      (cd crates/exports && rt lib) && cc -I bindings/c bindings/c/example.c -L crates/exports/out -lexports -o /tmp/example && /tmp/example
    It prints bindings/c/example.txt. */
@@ -166,6 +167,63 @@ static void of_no_width(void) {
     printf("a diagnostic that ends before it starts: %u\n", (unsigned)aozora_check_book(SLICE(damaged), STR(MARKED_BYTES)));
 }
 
+/* a book in buffers of its own */
+typedef struct { uint8_t tape[2048], bytes[256]; size_t tape_len, bytes_len; } book;
+#define BOOK(k) (k).tape, (k).tape_len, (k).bytes, (k).bytes_len
+#define ROOM(k) (k).tape, sizeof (k).tape, (k).bytes, sizeof (k).bytes
+
+/* P5 with another letter in place of the x. */
+static aozora_merge_answer corrected(const book *old, uint8_t letter, book *out) {
+    uint8_t bytes[] = READING_BYTES;   /* the letter begins the text, and is string 0 */
+    bytes[0] = bytes[9] = letter;
+    aozora_merge_answer a = aozora_merge(BOOK(*old), 4, 5, &letter, 1, SLICE(reading_tape), bytes, sizeof bytes - 1, ROOM(*out), WORDS(work));
+    out->tape_len = a.tape;
+    out->bytes_len = a.bytes;
+    return a;
+}
+
+static aozora_copy flattened(const book *old, book *out) {
+    aozora_copy c = aozora_flatten_book(BOOK(*old), ROOM(*out), WORDS(work));
+    out->tape_len = c.tape;
+    out->bytes_len = c.bytes;
+    return c;
+}
+
+static void string(const char *label, const book *k, uint32_t id) {
+    aozora_str s = aozora_lookup_str(BOOK(*k), id);
+    if (s.found) text(label, k->bytes + s.start, s.end - s.start);
+    else printf("%s: none\n", label);
+}
+
+/* One passage corrected again and again. Each reading with nodes adds a layer, until a merge is refused with 17; then the book is flattened. */
+static void a_long_day(void) {
+    static book old, made, flat, twice;
+    aozora_merge_answer a;
+    unsigned corrections = 0;
+    memcpy(old.tape, tape, old.tape_len = sizeof tape);
+    memcpy(old.bytes, BYTES, old.bytes_len = sizeof BYTES - 1);
+    for (;;) {
+        a = corrected(&old, corrections % 2 ? 'y' : 'x', &made);
+        if (a.number) break;
+        corrections++;
+        old = made;
+    }
+    printf("%u corrections of one passage take %zu and %zu bytes\n", corrections, old.tape_len, old.bytes_len);
+    line("one more", a);
+    string("its string 60", &old, 60);
+    aozora_copy f = flattened(&old, &flat);
+    if (f.number) { printf("not flattened: %u; the old book stays\n", (unsigned)f.number); return; }
+    printf("flat they take %zu and %zu\n", flat.tape_len, flat.bytes_len);
+    string("its string 60", &flat, 60);   /* references end with the flattening */
+    string("its string 0", &flat, 0);
+    flattened(&flat, &twice);
+    printf("flattened again: %s\n", twice.tape_len == flat.tape_len && twice.bytes_len == flat.bytes_len
+           && memcmp(twice.tape, flat.tape, flat.tape_len) == 0 && memcmp(twice.bytes, flat.bytes, flat.bytes_len) == 0 ? "the same bytes" : "not the same bytes");
+    line("one more", corrected(&flat, corrections % 2 ? 'y' : 'x', &made));
+    aozora_copy c = aozora_flatten_book(BOOK(old), flat.tape, flat.tape_len - 1, flat.bytes, sizeof flat.bytes, WORDS(work));
+    printf("into a buffer one byte short: %u\n", (unsigned)c.number);
+}
+
 static void lookups(void) {
     uint8_t out_tape[64], out_bytes[64];
     aozora_copy c = aozora_copy_book(SLICE(tape), STR(BYTES), SLICE(out_tape), SLICE(out_bytes));
@@ -182,6 +240,7 @@ int main(void) {
     for_a_desk();
     both_orders();
     of_no_width();
+    a_long_day();
     lookups();
     return EXIT_SUCCESS;
 }

@@ -515,7 +515,7 @@ fn body_of_segment(s: &Segment, plain: Plain) -> (u8, Body) {
     }
 }
 
-// ---- levels and plain words of the new layer's segments. The grafted values have the shape of what they come from, so both are walked side
+// ---- levels and plain words of a grafted layer's segments. The grafted values have the shape of what they come from, so both are walked side
 // by side. Nothing of this is read by the Rust.
 
 struct Walk<'a> {
@@ -578,6 +578,14 @@ impl Walk<'_> {
             _ => {}
         }
     }
+    fn nodes(&mut self, a: &[SourceNode], b: &[SourceNode]) {
+        for (a, b) in a.iter().zip(b) {
+            match (&a.node, &b.node) {
+                (NodeRef::Inline(a), NodeRef::Inline(b)) | (NodeRef::BlockLeaf(a), NodeRef::BlockLeaf(b)) => self.node(a, b),
+                _ => {}
+            }
+        }
+    }
 }
 
 /// How many strings, contents and segments a store has, asked of a layer above it.
@@ -602,14 +610,36 @@ pub(crate) fn carry(book: &Book, reading: &Reading, lex: &LexOutput, region: &Ra
         segments.resize(behind[2] as usize, (u8::MAX, (0, 0)));
         let target = &mut segments[before[2] as usize..];
         let mut walk = Walk { from: &reading.region.store, to: &lex.store, source: &reading.carried.segments, target, first: before[2] };
-        for (a, b) in reading.region.source_nodes.iter().zip(&lex.source_nodes[first..]) {
-            match (&a.node, &b.node) {
-                (NodeRef::Inline(a), NodeRef::Inline(b)) | (NodeRef::BlockLeaf(a), NodeRef::BlockLeaf(b)) => walk.node(a, b),
-                _ => {}
-            }
-        }
+        walk.nodes(&reading.region.source_nodes, &lex.source_nodes[first..]);
     }
     Carried { layers, segments, nodes }
+}
+
+/// The nodes of a book, grafted in order into one fresh store.
+pub struct Grafted {
+    store: NodeStore,
+    nodes: Vec<SourceNode>,
+}
+
+impl Book {
+    /// By the Rust's `graft_node_ref` alone. The published Rust makes one layer of many nowhere: of the Rust's are what grafts, interns and pushes, and the
+    /// order is that of document 02, wish 6.
+    pub fn grafted(&self) -> Grafted {
+        let mut store = NodeStore::default();
+        let nodes = self.lex.source_nodes.iter().map(|n| SourceNode { node: store.graft_node_ref(&self.lex.store, n.node), ..*n }).collect();
+        Grafted { store, nodes }
+    }
+    /// The book of these nodes; all else as it is.
+    pub fn flattened(&self) -> Self {
+        let (old, Grafted { store, nodes }) = (&self.lex, self.grafted());
+        let store = Arc::new(store);
+        let counts = pools(&store);
+        let mut segments = vec![(u8::MAX, (0, 0)); counts[2] as usize];
+        Walk { from: &old.store, to: &store, source: &self.carried.segments, target: &mut segments, first: 0 }.nodes(&old.source_nodes, &nodes);
+        let mut lex = LexOutput::new(old.normalized.clone(), old.sanitized.clone(), false, Registry::empty(), Vec::new(), old.pairs.clone(), nodes, old.container_pairs.clone(), store);
+        lex.diagnostics = old.diagnostics.clone();
+        Self { lex, carried: Carried { layers: vec![counts], segments, nodes: self.carried.nodes.clone() } }
+    }
 }
 
 // ---- a book written

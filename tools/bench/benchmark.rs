@@ -11,6 +11,7 @@ use oracle::tape::{Book as RustBook, Reading as RustReading, quick};
 include!("archive.rs");
 include!("book.rs");
 include!("cases.rs");
+include!("flatten.rs");
 include!("hostile.rs");
 include!("plot.rs");
 include!("document.rs");
@@ -34,7 +35,7 @@ const LIMIT: usize = 8;
 const INTERN: usize = 9; // of QUICK the interning of the old strings, in the case with Rubies of 1 MB
 const PRICE: usize = 10; // the estimate, with 16384 words
 const SHORT: usize = 11; // the merge into empty result buffers: refused with 18, so all of it up to number 17
-const SIDES: usize = 12;
+const SIDES: usize = 14; // 12 and 13: flatten.rs
 
 struct Row { shown: Vec<(Group, String)>, text: usize, nodes: usize, bytes: usize, times: [Option<Times>; SIDES] }
 
@@ -250,8 +251,9 @@ fn main() {
         eprintln!("{}", line(&row));
         rows.push(row);
     }
+    let flat = flat_rows(budget / cases.len() as f64, run.clock);
     let slow = hostile_rows(&hostile);
     let largest = cases.iter().find(|e| e.shown[0] == (Group::Sizes(Kind::Ruby), "16 MB".to_string())).unwrap();
     let profile = profile(&(largest.make)(), 4);
-    write(template, docs, &rows, &slow, &profile, &run);
+    write(template, docs, &rows, &flat, &slow, &profile, &run);
 }

@@ -3,6 +3,7 @@
 #[derive(Default)]
 struct Book {
     text: Vec<u8>, normalized: Vec<u8>, strings: Vec<u8>, lengths: Vec<u32>, contents: Vec<u8>, segments: Vec<u8>, nodes: Vec<u8>, pairs: Vec<u8>, containers: Vec<u8>, diagnostics: Vec<u8>,
+    ends: Vec<[usize; 3]>, // of all layers but the last: how many strings, and how many bytes of contents and of segments, are before the next one
 }
 
 impl Book {
@@ -50,11 +51,20 @@ impl Book {
     // a NonCanonicalDirective
     fn diagnostic(&mut self, start: usize, end: usize) { self.diagnostics.extend_from_slice(&[9, 1]); Self::words(&mut self.diagnostics, &[3, start as u32, end as u32, 0]); }
     fn ruby(&mut self, base: &str, reading: &str) { let (b, r) = (self.plain(base), self.plain(reading)); self.node(base, 1, 0, [b, 1, r, 1, 0, 0]); }
+    fn end(&self) -> [usize; 3] { [self.lengths.len(), self.contents.len(), self.segments.len()] }
+    // what comes now is of a further layer; numbers run on
+    fn next_layer(&mut self) { self.ends.push(self.end()); }
     fn done(&self) -> (Vec<u8>, Vec<u8>) {
         let mut t = vec![1]; Self::words(&mut t, &[self.text.len() as u32, self.normalized.len() as u32]);
-        t.push(2);
-        for l in &self.lengths { t.push(3); Self::word(&mut t, *l); }
-        for part in [&self.contents, &self.segments, &self.nodes, &self.pairs, &self.containers, &self.diagnostics] { t.extend_from_slice(part); }
+        let mut from = [0; 3];
+        for to in self.ends.iter().copied().chain([self.end()]) {
+            t.push(2);
+            for l in &self.lengths[from[0]..to[0]] { t.push(3); Self::word(&mut t, *l); }
+            t.extend_from_slice(&self.contents[from[1]..to[1]]);
+            t.extend_from_slice(&self.segments[from[2]..to[2]]);
+            from = to;
+        }
+        for part in [&self.nodes, &self.pairs, &self.containers, &self.diagnostics] { t.extend_from_slice(part); }
         t.push(10);
         let mut d = self.text.clone(); d.extend_from_slice(&self.normalized); d.extend_from_slice(&self.strings);
         (t, d)

@@ -28,15 +28,20 @@ fn ruby(b: &mut Book, base: &str, reading: &str) {
 fn format(b: &mut Book, target: &str) { b.format(&format!("［＃「{target}」に傍点］"), target); }
 
 // a Ruby whose base is a Ruby, and so on: 32 segments, levels 1 to 32
-fn deep(b: &mut Book, base: &str, reading: &str) {
-    let (mut inner, reading_id) = (b.plain(base), b.string(reading));
+fn deep_of(b: &mut Book, text: &str, base: u32, reading: u32) {
+    let mut inner = b.content(0, base, 0);
     for level in 1..=32 {
-        let outer = b.content(0, reading_id, 0);
+        let outer = b.content(0, reading, 0);
         let segment = b.segment(3, level, 1, [inner, 1, outer, 1, 0, 0]);
         inner = b.content(1, segment, 1);
     }
-    let outer = b.content(0, reading_id, 0);
-    b.node(&ruby_text(base, reading), 1, 0, [inner, 1, outer, 1, 0, 0]);
+    let outer = b.content(0, reading, 0);
+    b.node(text, 1, 0, [inner, 1, outer, 1, 0, 0]);
+}
+
+fn deep(b: &mut Book, base: &str, reading: &str) {
+    let ids = [base, reading].map(|s| b.string(s));
+    deep_of(b, &ruby_text(base, reading), ids[0], ids[1]);
 }
 
 fn paragraph(b: &mut Book, kind: Kind, i: usize, formats_every: usize) {
@@ -204,6 +209,28 @@ fn corrected(size: usize, times: usize, n: usize) -> Case {
     }
     let start = middle + times / 2 * (replacement.len() - old);
     Case { book, edit: (start, start + old), replacement, reading, nodes: b.nodes.len() / 49 + times * n }
+}
+
+// A book of 32 layers, each with the strings and records of a 32nd of the paragraphs, as corrections leave them that read one part after the other
+// again. The names in it come again, 1,500 bases and as many readings, since a flat layer has 3,583 strings at most. The passage in the middle has no
+// nodes, and neither has its reading: such a book takes no others.
+fn layered(size: usize, deep: bool) -> Case {
+    const NAMES: usize = 1500;
+    let (mut b, mut at, mut i) = (Book::default(), 0, 0);
+    for layer in 1..=32 {
+        if layer > 1 { b.next_layer(); }
+        let mut ids = [None; NAMES];
+        if layer == 16 { at = b.text.len(); passage(&mut b, BEFORE, Kind::Plain, 0); }
+        while b.text.len() + 250 < size * layer / 32 {
+            let (base, reading) = (format!("語{}", i % NAMES), format!("ご{}", i % NAMES));
+            let [s, t] = *ids[i % NAMES].get_or_insert_with(|| [b.string(&base), b.string(&reading)]);
+            b.put("「青空文庫の本を読む人は」");
+            if deep { deep_of(&mut b, &ruby_text(&base, &reading), s, t); } else { let words = [b.content(0, s, 0), 1, b.content(0, t, 0), 1, 0, 0]; b.node(&ruby_text(&base, &reading), 1, 0, words); }
+            b.put("を繰り返し声に出して読んでいた。\n\n");
+            i += 1;
+        }
+    }
+    case_of(&b, at, Kind::Plain, 0)
 }
 
 // A block over n paragraphs with a Ruby each, so that no blank line in it is a safe cut; `word` stands in the middle one. Answers where.

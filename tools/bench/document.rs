@@ -188,10 +188,11 @@ fn to_limit(rows: &[Row]) -> String {
     format!("{} to {} times the limit; at most 2 times in {} of {} cases, at most 3 times in {}", figures(first), figures(last), within(2.0), v.len(), within(3.0))
 }
 
-fn write(template: &str, docs: &str, rows: &[Row], slow: &[HostileRow], p: &Profile, run: &Run) {
+fn write(template: &str, docs: &str, rows: &[Row], flat: &[FlatRow], slow: &[HostileRow], p: &Profile, run: &Run) {
     let row = |kind: Kind, label: &str| shown(rows, Group::Sizes(kind)).into_iter().find(|s| s.0 == label).unwrap().1;
     let percent = |x: f64| format!("{:.0} %", 100.0 * x);
     let (largest, formats, usual) = (row(Kind::Ruby, "16 MB"), row(Kind::Formats, "16 MB"), row(Kind::Ruby, "1 MB"));
+    let deep = flat.iter().find(|r| r.name == FLAT_DEEP).unwrap();
     let values: Vec<(&str, String)> = vec![
         ("date", said_by("date", &["-u", "+%F %H:%M UTC"])),
         ("machine", machine()),
@@ -209,6 +210,12 @@ fn write(template: &str, docs: &str, rows: &[Row], slow: &[HostileRow], p: &Prof
         ("lent", lent(rows)),
         ("prices", prices(rows)),
         ("shared-prices", shared_prices()),
+        ("flat", flat_table(flat)),
+        ("flat-exponent", flat_exponent(flat, FLAT)),
+        ("flat-words-exponent", flat_exponent(flat, FLAT_WORDS)),
+        ("merge-exponent", flat_exponent(flat, MERGE)),
+        ("flat-deep", duration(deep.median(FLAT))),
+        ("flat-deep-graft", figures(deep.median(FLAT) / deep.median(REPARSE))),
         ("behind-count", count(rows, MERGE, REPARSE)),
         ("ahead-count", count(rows, REPARSE, MERGE)),
         ("behind-tapes-count", count(rows, MERGE, TAPES)),

@@ -10,7 +10,7 @@ const MAX_TEXT: usize = 16_777_215;
 
 // the entry that is timed
 #[derive(Clone, Copy, PartialEq)]
-enum Timed { Check, Region, Merge, Price }
+enum Timed { Check, Region, Merge, Price, Flat }
 
 // `shared`: bytes of records that runs named more than once add to the result
 struct Hostile { book: Tape, edit: (usize, usize), reading: Tape, shared: usize }
@@ -292,6 +292,32 @@ fn one_run(n: usize, strings: bool) -> Hostile {
     grafted_from(r, top)
 }
 
+// ---- flattening
+
+// n strings, 3,500 unlike ones; a content for each, those that stand next to each other naming strings that are far apart
+fn far_strings(b: &mut Book, n: usize) {
+    const APART: usize = 7919;
+    for i in 0..n { b.string(&format!("{:x}", i % 3500)); }
+    for i in 0..n { b.content(0, (i * APART % n) as u32, 0); }
+}
+
+// a book with one AngleQuote over n contents
+fn far_named(n: usize) -> Hostile {
+    let mut b = Book::default();
+    far_strings(&mut b, n);
+    b.node("y", 14, 0, [0, n as u32, 0, 0, 0, 0]);
+    Hostile { book: b.done(), edit: (0, 0), reading: (Vec::new(), Vec::new()), shared: 0 }
+}
+
+// what would be read is what is flattened
+fn as_book(h: Hostile) -> Hostile { Hostile { book: h.reading, reading: (Vec::new(), Vec::new()), shared: 47 * MAX_POOL, ..h } }
+
+fn far_shared(n: usize) -> Hostile {
+    let mut r = Book::default();
+    far_strings(&mut r, n);
+    as_book(shared(r))
+}
+
 // n Rubies in the book, n Formats in the reading
 fn introduced(strings: &[String]) -> Hostile {
     let (bases, targets) = strings.split_at(strings.len() / 2);
@@ -373,10 +399,10 @@ fn all_shapes() -> Vec<Shape> {
     const SORTED: &[usize] = &[16384, 262144]; // with fewer words a merge says 18 before it sorts
     const ONE: &[usize] = &[16384];
     const PRICED: &[usize] = &[0, 16384];
-    use Timed::{Check, Merge, Price, Region};
+    use Timed::{Check, Flat, Merge, Price, Region};
     let common: &'static str = Box::leak("青空文庫の本を読む人は".repeat(6).into_boxed_str());
     let (crowded, with_prefix, slot) = (Rc::new(crowd("", crowds_filter)), crowd(common, crowds_filter), Rc::new(crowd("", one_slot)));
-    let (crowded_reading, slot_too) = (crowded.clone(), slot.clone());
+    let (crowded_reading, slot_too, slot_flat) = (crowded.clone(), slot.clone(), slot.clone());
     vec![
         shape("number 5: n MarginNotes over n contents over n segments, n a multiple of 64", Check, ONE, MAX_POOL / 2, |n| margin_notes(n / 64 * 64)),
         shape("number 5: n MarginNotes over n contents over n segments, n no multiple of 64", Check, ONE, MAX_POOL / 2, |n| margin_notes(n / 64 * 64 + 37)),
@@ -411,6 +437,12 @@ fn all_shapes() -> Vec<Shape> {
         shape("grafting: a million contents by shared runs, n equal strings of a kilobyte in turn", Merge, ONE, 65_536, |n| long_shared(n)),
         shape("grafting: 3,583 strings of one slot, then n contents that name the last and the first in turn", Merge, ONE, MAX_POOL - 3583, move |n| probed(&slot(3583), n)),
         shape("grafting: 3,583 strings of one slot, a million contents by shared runs of n, far strings in turn", Merge, ONE, 65_536, move |n| probed_shared(&slot_too(3583), n)),
+        shape("flattening: n contents that name n strings, far apart", Flat, SORTED, MAX_POOL, |n| far_named(n)),
+        shape("flattening: a million contents by shared runs of n, which name n strings, far apart", Flat, SORTED, MAX_POOL / 4, |n| far_shared(n)),
+        shape("flattening: n equal strings of a kilobyte, a million contents by shared runs", Flat, SORTED, 65_536, |n| as_book(long_shared(n))),
+        shape("flattening: 3,583 strings of one slot, a million contents by shared runs of n, far strings in turn", Flat, ONE, 65_536, move |n| as_book(probed_shared(&slot_flat(3583), n))),
+        shape("flattening: n trees, two shared runs in turn on each level", Flat, ONE, MAX_POOL / 8, |n| as_book(trees(n, Sharing::Turn(2)))),
+        shape("flattening: n shared runs in turn on each of 32 levels", Flat, ONE, MAX_POOL / 33, |n| as_book(crowded_levels(n))),
         shape("price: n trees, two shared runs in turn on each level", Price, PRICED, MAX_POOL / 8, |n| trees(n, Sharing::Turn(2))),
         shape("price: n trees, a run shared by two fields on each level", Price, PRICED, MAX_POOL / 8, |n| trees(n, Sharing::Fields)),
         shape("price: n trees, runs shared by paths of unlike length", Price, PRICED, MAX_POOL / 8, |n| trees(n, Sharing::Unlike)),
@@ -437,6 +469,13 @@ fn call(h: &Hostile, timed: Timed, words: usize) -> (u32, f64) {
     let mut lent = vec![7; words];
     let mut o = Buffers { tape: Vec::new(), bytes: Vec::new(), work: vec![7; words] };
     if timed == Timed::Merge { (o.tape, o.bytes) = (vec![7; h.book.0.len() + 2 * h.reading.0.len() + h.shared + 64], vec![7; h.book.1.len() + 2 * h.reading.1.len() + 64]); }
+    if timed == Timed::Flat {
+        // just the size of the flat book; as long as the old one where it is refused
+        (o.tape, o.bytes) = (vec![7; h.book.0.len() + h.shared], vec![7; h.book.1.len()]);
+        let a = flatten(&h.book, &mut o);
+        o.tape.truncate(if a.number == 0 { a.tape } else { h.book.0.len() });
+        if a.number == 0 { o.bytes.truncate(a.bytes); }
+    }
     while taken.len() < 7 && taken.iter().sum::<f64>() < 0.1 {
         let start = now();
         number = black_box(match timed {
@@ -444,6 +483,7 @@ fn call(h: &Hostile, timed: Timed, words: usize) -> (u32, f64) {
             Timed::Region => choose_region(&h.book, h.edit, b"x", &mut lent).number,
             Timed::Merge => merge(&h.book, h.edit, b"x", &h.reading, &mut o).number,
             Timed::Price => estimate(&h.book, h.edit, b"x", &h.reading, &mut lent).number,
+            Timed::Flat => flatten(&h.book, &mut o).number,
         });
         taken.push(now() - start);
     }
@@ -504,7 +544,7 @@ fn hostile_rows(how: &str) -> Vec<HostileRow> {
     rows
 }
 
-fn entry_name(t: Timed) -> &'static str { match t { Timed::Check => "`check_book`", Timed::Region => "`choose_region`", Timed::Merge => "`merge`", Timed::Price => "`estimate`" } }
+fn entry_name(t: Timed) -> &'static str { match t { Timed::Check => "`check_book`", Timed::Region => "`choose_region`", Timed::Merge => "`merge`", Timed::Price => "`estimate`", Timed::Flat => "`flatten_book`" } }
 
 fn shown_exponent(r: &HostileRow) -> String { exponent(&r.points).map_or("unknown".into(), |e| format!("{e:.2}")) }
 

@@ -125,10 +125,14 @@ fn lengths(book: Stored<'_>) -> Lengths {
 }
 
 /// What the answer says of the buffers.
-fn cut(mut buffers: StoredBook, answer: Merged<Lengths>) -> Merged {
-    buffers.tape.truncate(answer.book.tape);
-    buffers.bytes.truncate(answer.book.bytes);
-    answer.with(buffers)
+fn cut(buffers: StoredBook, answer: Merged<Lengths>) -> Merged {
+    answer.with(cut_to(buffers, answer.book))
+}
+
+fn cut_to(mut buffers: StoredBook, taken: Lengths) -> StoredBook {
+    buffers.tape.truncate(taken.tape);
+    buffers.bytes.truncate(taken.bytes);
+    buffers
 }
 
 /// A copy of a book: the same bytes, once they are checked.
@@ -141,6 +145,85 @@ pub fn copy_book<'a>(book: impl Into<Stored<'a>>) -> Result<StoredBook, Refusal>
     let mut copy = buffers(lengths(book))?;
     raw::copy_book(book, lent(&mut copy))?;
     Ok(copy)
+}
+
+/// The book with one layer, in memory of its own (wish 6 of document 02).
+///
+/// Each merge of a reading with nodes adds a layer, and a book of 32 layers refuses the next with
+/// 17. So a long day goes: merge until 17, flatten, go on. The trees of the nodes are grafted in
+/// order into one fresh layer, and what no node names is gone; a book without nodes keeps one empty
+/// layer.
+///
+/// - Texts, spans, lists in their order and trees are equal before and after
+///   ([`Book::shows_the_same`](crate::Book::shows_the_same)). Ids are not: each [`StrId`],
+///   [`ContentRange`] and [`SegRange`] given out before ends here (an old id may show another string
+///   in the flat book), and those of the flat book hold until it is flattened in turn.
+/// - Two books that show the same are the same bytes once they are flat: so are those that the
+///   same two corrections made in either order. A flat book flattened again is itself.
+/// - Nothing is reread, and no desk is charged.
+///
+/// ```
+/// use aozora_incremental::{
+///     Book, BookBuilder, Edit, Node, NodeRef, Refusal, flatten_book, merge,
+/// };
+///
+/// let mut book = BookBuilder::new().text("aa\n\nbb\n\ncc").build()?;
+/// for letter in ["x", "y"].into_iter().cycle().take(40) {
+///     let mut reading = BookBuilder::new(); // a parser writes this
+///     let mark = reading.string(letter);
+///     reading.node(letter, NodeRef::Inline(Node::Kaeriten { mark })).text("b\n\n");
+///     let (edit, reading) = (Edit::new(4, 5, letter), reading.build_reading()?);
+///     let merged = match merge(&book, edit, &reading) {
+///         Err(Refusal::LayersFull) => {
+///             book = flatten_book(&book)?; // references end
+///             merge(&book, edit, &reading)?
+///         }
+///         answer => answer?,
+///     };
+///     book = merged.book;
+/// }
+/// assert_eq!(Book::new(&book)?.layers().len(), 10);
+/// # assert_eq!(Book::new(&book)?.text(), "aa\n\nyb\n\ncc");
+/// # Ok::<(), Refusal>(())
+/// ```
+///
+/// The result buffers grow to what is certainly enough. A book can name a run many times, and the
+/// flat book has it once for each time; where it comes from a stranger, [`raw::flatten_book`] takes
+/// your buffers, which bounds the memory.
+///
+/// # Errors
+///
+/// 1 to 7 where it is not a book. 18 where the flat layer would have more than 3583 strings or more
+/// contents or segments than [`MAX_POOL`](crate::MAX_POOL): then parse the whole text. Corrections
+/// whose readings have no nodes are still merged, and may take enough away. Equal strings of up to
+/// 64 bytes are one; a longer one is stored again each time that it is named, unless directly
+/// behind itself. 18 also where there is no memory.
+pub fn flatten_book<'a>(book: impl Into<Stored<'a>>) -> Result<StoredBook, Refusal> {
+    let book = book.into();
+    let mut work = zeros(flat_work_words(book)).or_else(|_| zeros(WORK_WORDS))?;
+    let mut into = |room| {
+        let mut flat = buffers(room)?;
+        let taken = raw::flatten_book(book, lent(&mut flat), &mut work)?;
+        Ok(cut_to(flat, taken))
+    };
+    let first = lengths(book);
+    match into(first) {
+        // 18 comes behind 1 to 7, so the book is accepted.
+        Err(Refusal::NoRoom) => {
+            let enough = room::flat(book).ok_or(Refusal::NoRoom)?;
+            // The first buffers were long enough, so 18 is of a limit.
+            if smaller(first, enough) == enough {
+                return Err(Refusal::NoRoom);
+            }
+            into(enough)
+        }
+        answer => answer,
+    }
+}
+
+/// One more word for each string makes a flattening faster: a string's record has 5 bytes.
+fn flat_work_words(book: Stored<'_>) -> usize {
+    WORK_WORDS.saturating_add(book.tape.len() / 5)
 }
 
 /// The region of an edit, in offsets of the old text: the passage that has to be read again with

@@ -147,6 +147,18 @@ unsafe extern "C" {
         out_bytes: *mut u8,
         out_bytes_len: usize,
     ) -> CopyAnswer;
+    fn aozora_flatten_book(
+        tape: *const u8,
+        tape_len: usize,
+        bytes: *const u8,
+        bytes_len: usize,
+        out_tape: *mut u8,
+        out_tape_len: usize,
+        out_bytes: *mut u8,
+        out_bytes_len: usize,
+        work: *mut u32,
+        work_len: usize,
+    ) -> CopyAnswer;
     fn aozora_choose_region(
         tape: *const u8,
         tape_len: usize,
@@ -370,6 +382,25 @@ pub(crate) fn copy_book(book: Stored<'_>, room: Room<'_>) -> CopyAnswer {
             room.tape.len(),
             room.bytes.as_mut_ptr(),
             room.bytes.len(),
+        )
+    }
+}
+
+pub(crate) fn flatten_book(book: Stored<'_>, room: Room<'_>, work: &mut [u32]) -> CopyAnswer {
+    // SAFETY: all pointers are those of borrowed slices: not null, valid for their lengths; the
+    // three that are written are borrowed `&mut`, so they overlap with nothing that is passed.
+    unsafe {
+        aozora_flatten_book(
+            book.tape.as_ptr(),
+            book.tape.len(),
+            book.bytes.as_ptr(),
+            book.bytes.len(),
+            room.tape.as_mut_ptr(),
+            room.tape.len(),
+            room.bytes.as_mut_ptr(),
+            room.bytes.len(),
+            work.as_mut_ptr(),
+            work.len(),
         )
     }
 }

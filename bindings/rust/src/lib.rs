@@ -4,7 +4,8 @@
 //! book asks [`choose_region`] which passage has to be read again, parses that passage, and gives
 //! the reading to [`merge`]. The corrected book is what comes out; how many nodes were reread is on
 //! the answer. [`estimate`] tells the price of a merge before it is made. A house with many desks
-//! has its invoice split: [`merge_for_desk`] charges the desk in a [`Ledger`].
+//! has its invoice split: [`merge_for_desk`] charges the desk in a [`Ledger`]. A book of 32 layers
+//! takes no more readings with nodes, so a long day goes: merge until 17, [`flatten_book`], go on.
 //!
 //! This is P5 of document 01, "aa⏎⏎bb⏎⏎cc" with one letter of the middle passage corrected:
 //!
@@ -28,7 +29,7 @@
 //!
 //! # What is promised
 //!
-//! The thirteen entries of [`raw`] are those of a static library that was proved, for every input,
+//! The fourteen entries of [`raw`] are those of a static library that was proved, for every input,
 //! to do what documents 01 and 02 say:
 //!
 //! 1. **An answer, always.** Any bytes and numbers give a result or one [`Refusal`], under its
@@ -38,13 +39,16 @@
 //! 3. **Either way round.** Two corrections of separate passages may come in either order: the same
 //!    passages are reread, the final books are equal with strings in place of ids, the sums of
 //!    reread nodes are equal, and every reference given out for the first book still shows what it
-//!    showed. [`merge_both_orders`] makes the four merges;
+//!    showed, until the book is flattened. [`merge_both_orders`] makes the four merges;
 //!    [docs/PROMISE.md](../../../../docs/PROMISE.md) says on one page what is claimed and what not.
 //! 4. **A ceiling on probing.** The probes that a merge returns are at most its calls of the
 //!    interner × the number of distinct strings of at most 64 bytes among them: [`InternStats`].
 //! 5. **An invoice by desk.** For every list of merges for desks from a new [`Ledger`], each total is
 //!    the sum of the rereads of its own accepted merges, and all totals together are the rereads of
 //!    the list: [`merge_for_desk`].
+//! 6. **A flat book.** [`flatten_book`] gives a book of one layer that shows what the book showed and
+//!    keeps nothing else. Two books that show the same are the same bytes once they are flat. Where
+//!    the nodes name more than 3583 different strings it is refused, with 18.
 //!
 //! Not promised: that the reading is what a parser of the whole text would give (the parser is not
 //! here); anything of time; the compiler's back end, the machine and the C library.
@@ -53,8 +57,8 @@
 //!
 //! - the declarations of the entries, one private module with the crate's only `unsafe` code; a
 //!   test compares its structs with bindings/c/aozora.h;
-//! - memory: how large the result buffers of [`merge`], [`merge_for_desk`] and
-//!   [`merge_both_orders`] have to be, and [`Estimate::room`]. Too small a guess would give number
+//! - memory: how large the result buffers of [`merge`], [`merge_for_desk`], [`merge_both_orders`]
+//!   and [`flatten_book`] have to be, and [`Estimate::room`]. Too small a guess would give number
 //!   18, never a wrong book or a charge;
 //! - [`Ledger`], which adds up the totals and prints them as an invoice;
 //! - [`BookBuilder`] and [`Book`], which write and read tapes. What [`BookBuilder::build`] gives
@@ -107,8 +111,8 @@ pub use book::{Book, Layer};
 pub use builder::BookBuilder;
 pub use calls::{
     check_book, check_reading, choose_region, copy_book, diagnostics_allow_incremental, estimate,
-    lookup_contents, lookup_segments, lookup_str, merge, merge_both_orders, merge_for_desk,
-    merge_within, node_at_source,
+    flatten_book, lookup_contents, lookup_segments, lookup_str, merge, merge_both_orders,
+    merge_for_desk, merge_within, node_at_source,
 };
 pub use ledger::{DESKS, Ledger};
 pub use records::Records;

@@ -101,8 +101,34 @@ pub fn lookup_segments(book: Stored<'_>, range: SegRange) -> Result<Option<Run>,
 ///
 /// 1 to 7 where it is not a book, 18 where a buffer is too short.
 pub fn copy_book(book: Stored<'_>, room: Room<'_>) -> Result<Lengths, Refusal> {
-    let answer = ffi::copy_book(book, room);
+    taken(&ffi::copy_book(book, room))
+}
+
+fn taken(answer: &ffi::CopyAnswer) -> Result<Lengths, Refusal> {
     Refusal::of_answer(answer.number).map(|()| Lengths { tape: answer.tape, bytes: answer.bytes })
+}
+
+/// Flattens a book: see [`flatten_book`](crate::flatten_book). Both buffers are written whole: the
+/// flat book and zeros behind it, or zeros after a refusal. `work` are
+/// [`WORK_WORDS`](crate::WORK_WORDS) words or more, and come back as zeros; one more for each string
+/// makes it faster for a book that has many.
+///
+/// Buffers as long as the book are enough where no content, no segment and no string of more than
+/// 64 bytes is named twice. Certainly enough, with that many words: the old tape's
+/// length + 49300940, and the old bytes' length + 3583 times the longest string, or the old bytes'
+/// length alone where no string has more than 64 bytes. 18 in such buffers stays 18 in longer ones.
+///
+/// # Errors
+///
+/// 1 to 7 where it is not a book; 18 where a buffer is too short, words are too few, or the flat
+/// layer would have more than 3583 strings or more contents or segments than
+/// [`MAX_POOL`](crate::MAX_POOL).
+pub fn flatten_book(
+    book: Stored<'_>,
+    room: Room<'_>,
+    work: &mut [u32],
+) -> Result<Lengths, Refusal> {
+    taken(&ffi::flatten_book(book, room, work))
 }
 
 /// The region of an edit, in offsets of the old text: what has to be read again. It ends behind a

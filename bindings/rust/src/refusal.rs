@@ -54,10 +54,13 @@ pub enum Refusal {
     NewRubyFormatDependency = 15,
     /// 16: a cut falls inside a normalized character.
     CutInCharacter = 16,
-    /// 17: the reading has nodes and the old book has 32 layers.
+    /// 17: the reading has nodes and the old book has 32 layers. [`flatten_book`] makes them one.
+    ///
+    /// [`flatten_book`]: crate::flatten_book
     LayersFull = 17,
     /// 18: the result passes a limit of 3, its new layer has more than 3583 strings, a result
-    /// buffer is too short, or fewer than [`WORK_WORDS`](crate::WORK_WORDS) work words are lent.
+    /// buffer is too short, or fewer than [`WORK_WORDS`](crate::WORK_WORDS) work words are lent. Of a
+    /// merge, a flattening or a copy.
     NoRoom = 18,
     /// 19: the desk is above 63, or the ledger has not exactly [`DESKS`](crate::DESKS) totals.
     DeskOrLedger = 19,
@@ -155,10 +158,10 @@ impl Refusal {
                 "the passage begins or ends inside a character of the normalized text: the normalized text is not the images of the nodes"
             }
             Self::LayersFull => {
-                "the book has 32 layers already and the reading would add one: parse the whole text, which gives a book of one layer"
+                "the book has 32 layers already and the reading would add one: flatten the book and merge again, or parse the whole text; either gives a book of one layer with new ids and ranges"
             }
             Self::NoRoom => {
-                "the result does not fit: a result buffer is too short, fewer than 16384 work words are lent, the merged book passes a limit, or \
+                "the result does not fit: a result buffer is too short, fewer than 16384 work words are lent, the merged or flat book passes a limit, or \
                  its new layer has more than 3583 strings"
             }
             Self::DeskOrLedger => {

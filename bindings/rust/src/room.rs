@@ -1,5 +1,5 @@
-//! How long the result buffers of a merge have to be. Not proved, and nothing rests on it but
-//! memory: where it said too little, the merge would be refused with 18.
+//! How long the result buffers of a merge and a flattening have to be. Not proved, and nothing
+//! rests on it but memory: where it said too little, the call would be refused with 18.
 
 use crate::book::Book;
 use crate::stored::{Edit, Estimate, Lengths, Stored};
@@ -45,6 +45,32 @@ pub(crate) fn enough(book: Stored<'_>, edit: Edit<'_>, reading: Stored<'_>) -> O
     })
 }
 
+/// What is certainly enough for the flat book, of a book that is accepted. None where it passes a
+/// limit, so that no room is enough.
+pub(crate) fn flat(book: Stored<'_>) -> Option<Lengths> {
+    let old = Book::walk(book).ok()?;
+    let Cost { contents, segments, long_bytes } = Costs::of(&old).nodes(&old);
+    let pushed = |count: u64| usize::try_from(count).ok().filter(|&n| n <= MAX_POOL);
+    let layer = 1 + 5 * MAX_NEW_STRINGS + 10 * pushed(contents)? + 37 * pushed(segments)?;
+    let longest = old.strings().map(str::len).max().unwrap_or(0);
+    let short: usize = old.strings().map(str::len).filter(|&len| len <= INTERN_LENGTH_LIMIT).sum();
+    let long = usize::try_from(long_bytes)
+        .unwrap_or(usize::MAX)
+        .min(MAX_NEW_STRINGS.saturating_mul(longest));
+    Some(Lengths {
+        tape: 10 + layer + list_bytes(&old),
+        bytes: (old.text().len() + old.normalized().len() + short).saturating_add(long),
+    })
+}
+
+/// The tape's nodes, pairs, containers and diagnostics.
+fn list_bytes(book: &Book<'_>) -> usize {
+    49 * book.nodes().len()
+        + 18 * book.pairs().len()
+        + 13 * book.containers().len()
+        + 18 * book.diagnostics().len()
+}
+
 /// What is certainly enough, by the counts of an estimate. A tape that cannot be walked was refused.
 pub(crate) fn priced(price: &Estimate, book: Stored<'_>, reading: Stored<'_>) -> Lengths {
     let Ok(new) = Book::walk(reading) else { return Lengths::default() };
@@ -58,10 +84,6 @@ pub(crate) fn priced(price: &Estimate, book: Stored<'_>, reading: Stored<'_>) ->
             + 10 * at_most(price.contents, MAX_POOL)
             + 37 * at_most(price.segments, MAX_POOL)
     };
-    let lists = 49 * new.nodes().len()
-        + 18 * new.pairs().len()
-        + 13 * new.containers().len()
-        + 18 * new.diagnostics().len();
     let is_long = |string: &&str| string.len() > INTERN_LENGTH_LIMIT;
     let short: usize = new.strings().filter(|s| !is_long(s)).map(str::len).sum();
     let longest = new.strings().filter(is_long).map(str::len).max().unwrap_or(0);
@@ -76,7 +98,7 @@ pub(crate) fn priced(price: &Estimate, book: Stored<'_>, reading: Stored<'_>) ->
         short.saturating_add(long.min(strings.saturating_mul(longest)))
     };
     Lengths {
-        tape: book.tape.len().saturating_add(layer + lists),
+        tape: book.tape.len().saturating_add(layer + list_bytes(&new)),
         bytes: price.byte_length.saturating_add(new_strings),
     }
 }
@@ -120,7 +142,8 @@ impl Cost {
     }
 }
 
-/// The costs of a reading's items, as sums up to each place, so that a run costs two lookups.
+/// The costs of the items of a reading, or of a book that is flattened, as sums up to each place,
+/// so that a run costs two lookups.
 struct Costs {
     contents: Vec<Cost>,
     segments: Vec<Cost>,

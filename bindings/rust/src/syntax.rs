@@ -13,14 +13,15 @@ pub const MAX_TEXT: usize = 16_777_215;
 pub const MAX_POOL: usize = 1_048_575;
 /// How many nodes, pairs, containers or diagnostics a book may have.
 pub const MAX_LIST: usize = 262_143;
-/// How many layers a book may have.
+/// How many layers a book may have. [`flatten_book`](crate::flatten_book) gives it one.
 pub const MAX_LAYERS: usize = 32;
 /// The highest level of a segment.
 pub const MAX_LEVEL: u8 = 32;
-/// How many strings the new layer of a merged book may have.
+/// How many strings the new layer of a merged book may have, and the layer of a flat one.
 pub const MAX_NEW_STRINGS: usize = 3583;
-/// How many work words a merge has to be lent. More are welcome: with two words for each node of a
-/// book of more than 30,000, numbers 10 and 15 are faster.
+/// How many work words a merge or a flattening has to be lent. More are welcome: with two words for
+/// each node of a book of more than 30,000, numbers 10 and 15 are faster; with one more for each
+/// string, a flattening is.
 pub const WORK_WORDS: usize = 16384;
 /// How a missing id is written.
 pub const NO_STRING: u32 = 0xFFFF_FFFF;

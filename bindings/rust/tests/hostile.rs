@@ -5,8 +5,8 @@ mod common;
 
 use aozora_incremental::*;
 use common::{
-    ABC, Random, desk_agrees, diagnostic, lavish, plain, price_agrees, random_book, read_all,
-    rounds, ruby_reading,
+    ABC, Random, desk_agrees, diagnostic, flat_agrees, lavish, plain, price_agrees, random_book,
+    read_all, rounds, ruby_reading,
 };
 
 /// A small book with a record of each kind.
@@ -59,6 +59,10 @@ fn ask(stored: Stored<'_>, r: &mut Random) -> Result<(), Refusal> {
     assert_eq!(lookup_contents(stored, ContentRange { start: 0, len: 1 }).map(|_| ()), number);
     assert_eq!(lookup_segments(stored, SegRange { start: 0, len: 1 }).map(|_| ()), number);
     assert_eq!(copy_book(stored).map(|_| ()), number);
+    assert_eq!(flatten_book(stored).map(|_| ()), number);
+    if later {
+        flat_agrees(stored);
+    }
     match choose_region(stored, edit) {
         Err(refusal) if !later => assert_eq!(Err(refusal), number),
         region => assert!(
@@ -308,6 +312,7 @@ fn random_orders() {
         let [before, a, z] = [&old, &orders.later_second.book, &orders.earlier_second.book]
             .map(|book| Book::new(book).unwrap());
         assert_eq!(a.shows_the_same(&z, 1 << 20), Ok(true));
+        assert_eq!(flatten_book(&a).unwrap(), flatten_book(&z).unwrap());
         assert_eq!(
             orders.earlier_first.reread + orders.later_second.reread,
             orders.later_first.reread + orders.earlier_second.reread
@@ -323,4 +328,37 @@ fn random_orders() {
         }
     }
     assert!(accepted > 100, "{accepted}");
+}
+
+/// Document 02, wish 6, on random days of corrections of a book: merge until 17, flatten, go on.
+#[test]
+fn random_days() {
+    let (mut merges, mut flattened) = (0, 0);
+    for seed in 0..rounds(60) {
+        let r = &mut Random::new(seed + (5 << 40));
+        let mut b = BookBuilder::new();
+        let mut nodes = pools(&mut b, r);
+        with_nodes(&mut b, "あa人\n\nbé\n\nccc\n\n", &mut nodes, r);
+        remarks(&mut b, r);
+        let mut book = b.build().unwrap();
+        for _ in 0..100 {
+            let last = Book::new(&book).unwrap().text().len() as u32;
+            let edit =
+                r.pick(&[Edit::new(0, 3, "人"), Edit::new(0, 3, "あ"), Edit::new(last, last, "a")]);
+            let reading = reading_for(&book, edit, r);
+            match merge(&book, edit, &reading) {
+                Ok(merged) => {
+                    merges += 1;
+                    book = merged.book;
+                }
+                Err(Refusal::LayersFull) => {
+                    flattened += 1;
+                    book = flat_agrees(book.as_stored());
+                    book = merge(&book, edit, &reading).unwrap().book;
+                }
+                Err(_) => {}
+            }
+        }
+    }
+    assert!(merges > 1000 && flattened > 40, "{merges} {flattened}");
 }

@@ -75,6 +75,10 @@ fn as_large_as_a_book_may_be() {
         assert_eq!(check_book(&book), Ok(()), "{what}");
         let rebuilt = BookBuilder::from_book(&Book::new(&book).unwrap()).stored().unwrap();
         assert!(rebuilt == book && copy_book(&book).unwrap() == book, "{what}");
+        // flat, what no node names is gone, and all else is there
+        let named_by_none = ["strings", "contents", "segments", "layers"].contains(&what);
+        let flat = if named_by_none { plain(PASSAGES) } else { book };
+        assert!(flatten_book(&full(what, most)).unwrap() == flat, "{what}");
         assert_eq!(check_book(&full(what, most + 1)), Err(Refusal::OverLimit), "{what}");
     }
 }

@@ -4,23 +4,7 @@
 mod common;
 
 use aozora_incremental::*;
-use common::{lavish, plain};
-
-/// A reading of "x\n\n" whose only node names the same run twice, level by level: 2 to the `levels`
-/// times what `inner` gives, between other texts.
-fn doubled(levels: usize, inner: impl FnOnce(&mut BookBuilder) -> Segment) -> StoredBook {
-    let mut b = BookBuilder::new();
-    let (inner, other) = (inner(&mut b), b.string("other"));
-    let mut run = b.segments(&[inner, Segment::text(other)]);
-    for _ in 0..levels {
-        let twice = b.contents(&[Content::Segments(run), Content::Segments(run)]);
-        let node = b.node_segment(Node::AngleQuote { content: twice });
-        run = b.segments(&[node]);
-    }
-    let content = b.contents(&[Content::Segments(run)]);
-    b.node("x", NodeRef::Inline(Node::AngleQuote { content })).text("\n\n");
-    b.build_reading().unwrap()
-}
+use common::{doubled, lavish, plain};
 
 fn doubling(levels: usize, text: &str) -> StoredBook {
     doubled(levels, |b| Segment::text(b.string(text)))

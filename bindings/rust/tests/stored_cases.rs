@@ -6,7 +6,8 @@ mod common;
 
 use aozora_incremental::*;
 use common::{
-    Lent, Parts, cases, desk_agrees, desk_agrees_within, file, fx_hash, price_agrees, repository,
+    Lent, Parts, cases, desk_agrees, desk_agrees_within, file, flat_agrees, fx_hash, price_agrees,
+    repository,
 };
 use std::fmt::Write;
 
@@ -164,6 +165,90 @@ fn in_desks(ledger: &[u32], before: &[u32]) -> String {
 fn desk_run() {
     let mut left = Left::default();
     replay("desk_run", |case| desk_line(&mut left, case));
+}
+
+/// As crates/flatten_run prints a flattening: a case brings a book, or has the one that the case
+/// before left; its correction, if it has one, is merged into the book and into the flat one.
+fn flat_line(left: &mut StoredBook, case: &common::Case<'_>) -> String {
+    let mut parts = Parts(case.replacement);
+    let [tape, bytes, words, kept, replacement, reading] = [(); 6].map(|()| parts.word() as usize);
+    if kept & 2 == 0 {
+        *left = case.book.into();
+    }
+    let lend = || Lent::new(Lengths { tape, bytes }, words);
+    let mut lent = lend();
+    let answer = lent.flatten(left.as_stored());
+    the_grown_form_agrees(left, &answer, &lent);
+    let Lengths { tape, bytes } = answer.unwrap_or_default();
+    let made = Stored::new(&lent.tape[..tape], &lent.bytes[..bytes]);
+    let mut out = match answer {
+        Ok(_) => {
+            let hashes = (fx_hash(made.tape), fx_hash(made.bytes));
+            format!("{tape} and {bytes} bytes, tape {:016x} bytes {:016x}", hashes.0, hashes.1)
+        }
+        Err(refusal) => format!("refused {}", refusal.number()),
+    };
+    out = format!("{}: {out}, {}", case.label, rest(&lent, made));
+    let mut flat = StoredBook::from(made);
+    if answer.is_ok() {
+        let number = check_book(&flat).map_or_else(Refusal::number, |()| 0);
+        let mut twice = lend();
+        assert_eq!(twice.flatten(flat.as_stored()), answer);
+        let same = if twice == lent { "the same" } else { "another" };
+        write!(out, ", check {number}, again {same}").unwrap();
+    }
+    if reading > 0 {
+        let edit = Edit::new(case.start, case.end, parts.take(replacement));
+        let reading = Stored::new(parts.take(reading), parts.0);
+        out += &format!("\n  merge before: {}", correct(left, edit, reading, lend));
+        if answer.is_ok() {
+            out += &format!("\n  merge after: {}", correct(&mut flat, edit, reading, lend));
+        }
+    }
+    if answer.is_ok() {
+        *left = flat;
+    }
+    out
+}
+
+/// A correction of a book, in lent buffers. Accepted, it stands in the book's place.
+fn correct(
+    book: &mut StoredBook,
+    edit: Edit<'_>,
+    reading: Stored<'_>,
+    lent: impl Fn() -> Lent,
+) -> String {
+    let mut lent = lent();
+    let answer = lent.merge(book.as_stored(), edit, reading);
+    let made = made(&answer, &lent);
+    let shown = shown(&answer, made, Merged::to_string);
+    if answer.is_ok() {
+        *book = made.into();
+    }
+    shown
+}
+
+/// With memory of its own a flattening answers the same, or accepts what was refused for want of
+/// room.
+fn the_grown_form_agrees(book: &StoredBook, answer: &Result<Lengths, Refusal>, lent: &Lent) {
+    let ours = flatten_book(book);
+    match (&ours, answer) {
+        (Ok(ours), Ok(taken)) => {
+            let made = Stored::new(&lent.tape[..taken.tape], &lent.bytes[..taken.bytes]);
+            assert!(ours.as_stored() == made);
+        }
+        (Ok(_) | Err(Refusal::NoRoom), Err(Refusal::NoRoom)) => {}
+        (ours, theirs) => assert_eq!(ours.as_ref().map(|_| ()), theirs.as_ref().map(|_| ())),
+    }
+    if ours.is_ok_and(|flat| flat.tape.len() < 1 << 20) {
+        flat_agrees(book.as_stored());
+    }
+}
+
+#[test]
+fn flatten_run() {
+    let mut left = StoredBook::default();
+    replay("flatten_run", |case| flat_line(&mut left, case));
 }
 
 /// As crates/estimate_run prints a price: the program lends words that are all seven.

@@ -51,7 +51,7 @@ pub struct StrAnswer {
     pub end: usize,
 }
 
-// How many bytes of the two result buffers the copy takes.
+// How many bytes of the two result buffers the book takes, a copy or a flat one.
 #[repr(C)]
 #[derive(Clone, Copy)]
 pub struct CopyAnswer {

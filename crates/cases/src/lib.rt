@@ -1,7 +1,8 @@
 // One case after the other out of a stream of them. A case is six words: the lengths of its label, its tape and its bytes, a start,
 // an end, the length of its replacement; then those four parts. What the input does not hold of a case is left out of it. The programs
-// that read cases have the same `main`, six lines each (desk_run's carries a ledger and a book along): in one function here, lent what shows a
-// case, each would have to show that its closure may be called with any case, and promise nothing of what is read and printed.
+// that read cases have the same `main`, six lines each (desk_run's carries a ledger and a book along, flatten_run's a book): in one function
+// here, lent what shows a case, each would have to show that its closure may be called with any case, and promise nothing of what is read and
+// printed.
 #![tactic(auto)]
 
 ghost use Rattle.std.specs.Prelude.{◌≡◌, take, drop};

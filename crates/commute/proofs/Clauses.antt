@@ -1,5 +1,5 @@
 -- What is promised of merges, clause by clause, as a reader asks for it: a merge's result is accepted again; what it keeps it keeps once
--- (wish 5); and what demand 3 says of four accepted merges. The edits in must-fail/ ask for more.
+-- (wish 5); what a flattening leaves as it was (wish 6); and what demand 3 says of four accepted merges. The edits in must-fail/ ask for more.
 use Rattle.std.specs.Prelude.{◌≡◌, ℕ, ◌+◌, ◌<◌, []}
 use Rattle.std.proofs.Common.{sym, ◌∙◌}
 use Rattle.std.proofs.Math.Path.{ap}
@@ -14,6 +14,7 @@ use Rattle.model.specs.Merge.{Stored, Room, IncrementalOutput, node_located, dia
 use Rattle.model.specs.Once.{on_both_sides, KeptOnce, CountedOnce}
 use Rattle.model.specs.Lookup.{lookup_str}
 use Rattle.model.specs.Demand3.{Shown, shown, Correction, StoredBytes, region_behind, Separate, BothOrders, Commutes, Demand3}
+use Rattle.model.specs.Flatten.{flatten_book, Flat, Flattened}
 use Rattle.laws.specs.Checks.{bind_accepted, checked_book, checked_reading, merge_accepted, merged_of}
 use Rattle.laws.specs.ReadFits.{read_fits_lem}
 use Rattle.laws.specs.Estimate.{finished, merge_fitted}
@@ -21,6 +22,7 @@ use Rattle.commute.specs.Step.{step_of}
 use Rattle.commute.specs.Book.{output_again}
 use Rattle.commute.proofs.Demand3.{demand3}
 use Rattle.commute.proofs.Once.{counted_once}
+use Rattle.commute.proofs.Flattened.{flattened}
 
 -- The output of an accepted merge is accepted as a book.
 pub merged_again : (s : Stored) (e : Edit) (rs : Stored) (room : Room) (m : IncrementalOutput) → StoredBytes s → StoredBytes rs → merge s e rs room ≡ accepted m
@@ -47,6 +49,22 @@ module _ (s : Stored) (e : Edit) (rs : Stored) (f : Fitted) (p : fitted s e rs �
 
   pub diagnostics_once : on_both_sides diagnostic_located f.window f.old.diagnostics ≡ []
   diagnostics_once = once.diagnostics
+
+-- ---- wish 6
+
+module _ (stored : Stored) (book : LexOutput) (bytes : StoredBytes stored) (checked : check_book stored.tape stored.bytes ≡ accepted book)
+    (room : Room) (made : Stored) (q : flatten_book stored room ≡ accepted made) where
+  pub made_flat : Flat book made
+  unfolding Flattened
+  made_flat = flattened stored book bytes checked room made q
+
+  pub flat_nodes : shown_nodes made_flat.flat ≡ shown_nodes book
+  unfolding shown
+  flat_nodes = ap (λ (s : Shown). s.source_nodes) made_flat.equal_books
+
+  pub flat_diagnostics : made_flat.flat.diagnostics ≡ book.diagnostics
+  unfolding shown
+  flat_diagnostics = ap (λ (s : Shown). s.diagnostics) made_flat.equal_books
 
 -- ---- demand 3
 

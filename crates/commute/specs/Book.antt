@@ -83,7 +83,7 @@ module _ {old : LexOutput} {e : Edit} {r : Span} {reading : RegionOutput} {m : I
   f : Fit old e reading r
   f = fit_of s
 
-  g : Grown old reading new.layers (grafted old reading).0
+  g : Grown old.layers reading new.layers (grafted old reading).0
   g = grown old reading s.old_fits s.reading_fits s.old_formed s.reading_formed e r (limits s)
 
   start_small : win.normalized.start ≤ max_text
@@ -140,7 +140,7 @@ module _ {old : LexOutput} {e : Edit} {r : Span} {reading : RegionOutput} {m : I
       let so = shapes_of old fo.shape in
       let sr = shapes_of reading fr.shape in
       record {
-        layers = g.shape;
+        layers = g.layers.shape;
         nodes = spliced_all node_located win node_shape node_shape node_shape (λ n o h. o) (λ n o. o) (λ n o h. o) old.source_nodes (grafted old reading).0 so.nodes g.node_shapes;
         pairs = spliced_all pair_located win pair_shape pair_shape pair_shape (λ n o h. o) (λ n o. o) (λ n o h. o) old.pairs reading.pairs so.pairs sr.pairs;
         diagnostics =
@@ -164,7 +164,7 @@ module _ {old : LexOutput} {e : Edit} {r : Span} {reading : RegionOutput} {m : I
         sanitized = lt-ltb (length new.sanitized) 4294967296 (omega (arith, l.sanitized));
         normalized = lt-ltb (length new.normalized) 4294967296 (omega (arith, l.normalized));
         layered = some_layers;
-        layers = g.fits;
+        layers = g.layers.fits;
         source_nodes = nodes_fit;
         pairs = pairs_fit;
         container_pairs = containers_fit;
@@ -182,7 +182,7 @@ module _ {old : LexOutput} {e : Edit} {r : Span} {reading : RegionOutput} {m : I
       rw (
         splice_utf8 e.start e.end e.replacement old.sanitized u.sanitized s.chosen.replacement s.chosen.start_boundary s.chosen.end_boundary,
         splice_utf8 win.normalized.start win.normalized.end reading.normalized old.normalized u.normalized (utf8_facts reading s.reading_formed.utf8).normalized c.0 c.1,
-      ) g.strings
+      ) g.layers.strings
 
   nodes_ok : all (node_ok new.layers) new.source_nodes ≡ true
   unfolding merged_book node_located node_ok node_fields
@@ -192,11 +192,11 @@ module _ {old : LexOutput} {e : Edit} {r : Span} {reading : RegionOutput} {m : I
 
   ids_ok_lem : ids_ok new ≡ true
   unfolding ids_ok
-  ids_ok_lem = rw g.ids nodes_ok
+  ids_ok_lem = rw g.layers.ids nodes_ok
 
   levels_ok_lem : levels_ok new ≡ true
   unfolding levels_ok
-  levels_ok_lem = g.levels
+  levels_ok_lem = g.layers.levels
 
   -- The result of an accepted merge fits the layout and passes 2 to 7 again.
   pub merged_book_lem : (fits new ≡ true) × WellFormed new

@@ -28,24 +28,32 @@ unfolding graft_node_refs graft_node_ref graft_node shown_node show_node show_wi
 outline_grafted st [] f = refl
 outline_grafted st (n ∷ ns) f = ap (λ (l : List SourceNode). outline n ∷ l) (outline_grafted st ns (graft_node_ref (shown_node st n) f).1)
 
--- whatever the outlines decide is the same
-pub same_outline : {B : Type 0} (F : List SourceNode → B) → ((ns : List SourceNode) → F (map outline ns) ≡ F ns) → (old : LexOutput) (reading : RegionOutput)
-    → F (grafted old reading).0 ≡ F reading.source_nodes
-unfolding grafted shown_nodes
-same_outline F h old reading =
-    sym (h (graft_node_refs (map (shown_node (store_of reading.layers)) reading.source_nodes) (layered old.layers)).0)
-    ∙ ap F (outline_grafted (store_of reading.layers) reading.source_nodes (layered old.layers))
+-- whatever the outlines decide is the same, in whichever layer the nodes are grafted
+pub same_outline : {B : Type 0} (F : List SourceNode → B) → ((ns : List SourceNode) → F (map outline ns) ≡ F ns) → (reading : LexOutput) (f : NewLayer)
+    → F (graft_node_refs (shown_nodes reading) f).0 ≡ F reading.source_nodes
+unfolding shown_nodes
+same_outline F h reading f =
+    sym (h (graft_node_refs (map (shown_node (store_of reading.layers)) reading.source_nodes) f).0)
+    ∙ ap F (outline_grafted (store_of reading.layers) reading.source_nodes f)
     ∙ h reading.source_nodes
 
-ordered_outline : (k : ℕ) (ns : List SourceNode) → ordered k (map outline ns) ≡ ordered k ns
+pub ordered_outline : (k : ℕ) (ns : List SourceNode) → ordered k (map outline ns) ≡ ordered k ns
 unfolding ordered
 ordered_outline k [] = refl
 ordered_outline k (n ∷ ns) = ap (λ (t : Bool). leb k n.source_span.start && t) (ordered_outline n.source_span.end ns)
 
-offsets_outline : (i s : ℕ) (ns : List SourceNode) → offsets_ok i s (map outline ns) ≡ offsets_ok i s ns
+pub offsets_outline : (i s : ℕ) (ns : List SourceNode) → offsets_ok i s (map outline ns) ≡ offsets_ok i s ns
 unfolding offsets_ok image_length standalone_padding span_length
 offsets_outline i s [] = refl
 offsets_outline i s (n ∷ ns) = ap (λ (t : Bool). offset_test i s n && t) (offsets_outline (i + image_length n) (s + span_length n) ns)
+
+pub images_outline : (ns : List SourceNode) → images (map outline ns) ≡ images ns
+unfolding image_length standalone_padding
+images_outline ns = images_map (λ n. true) outline (λ n h. refl) ns (all_true ns)
+
+pub spans_outline : (ns : List SourceNode) → spans (map outline ns) ≡ spans ns
+unfolding span_length
+spans_outline ns = spans_map (λ n. true) outline (λ n h. refl) ns (all_true ns)
 
 pub record GraftedNodes (old : LexOutput) (reading : RegionOutput) : Type 0 where
   pub inside : all (node_in (length reading.sanitized)) (grafted old reading).0 ≡ true
@@ -58,21 +66,21 @@ pub record GraftedNodes (old : LexOutput) (reading : RegionOutput) : Type 0 wher
   pub warichu : depth is_warichu_open is_warichu_close 0 (grafted old reading).0 ≡ 0
 
 pub grafted_nodes : (old : LexOutput) (reading : RegionOutput) → Sound reading → balanced_nodes reading.source_nodes ≡ true → GraftedNodes old reading
-unfolding balanced_nodes image_length standalone_padding span_length
+unfolding grafted balanced_nodes
 grafted_nodes old reading s e =
     let offset_in : SourceNode → Bool = λ n. ltb n.normalized_offset (length reading.normalized) in
     let b = both (balanced_from is_block_open is_block_close 0 reading.source_nodes) (balanced_from is_warichu_open is_warichu_close 0 reading.source_nodes) e in
     record {
-      inside = same_outline (all (node_in (length reading.sanitized))) (λ ns. all_map_is (node_in (length reading.sanitized)) outline ns) old reading ∙ s.places.source_spans;
-      order = same_outline (ordered 0) (ordered_outline 0) old reading ∙ s.places.order;
-      offsets = same_outline (offsets_ok 0 0) (offsets_outline 0 0) old reading ∙ s.places.offsets;
-      small = same_outline (all offset_in) (λ ns. all_map_is offset_in outline ns) old reading ∙ offsets_small s;
-      images = same_outline images (λ ns. images_map (λ n. true) outline (λ n h. refl) ns (all_true ns)) old reading;
-      spans = same_outline spans (λ ns. spans_map (λ n. true) outline (λ n h. refl) ns (all_true ns)) old reading;
+      inside = same_outline (all (node_in (length reading.sanitized))) (λ ns. all_map_is (node_in (length reading.sanitized)) outline ns) reading (layered old.layers) ∙ s.places.source_spans;
+      order = same_outline (ordered 0) (ordered_outline 0) reading (layered old.layers) ∙ s.places.order;
+      offsets = same_outline (offsets_ok 0 0) (offsets_outline 0 0) reading (layered old.layers) ∙ s.places.offsets;
+      small = same_outline (all offset_in) (λ ns. all_map_is offset_in outline ns) reading (layered old.layers) ∙ offsets_small s;
+      images = same_outline images images_outline reading (layered old.layers);
+      spans = same_outline spans spans_outline reading (layered old.layers);
       blocks =
-          same_outline (depth is_block_open is_block_close 0) (λ ns. depth_map is_block_open is_block_close outline (λ n. refl) (λ n. refl) 0 ns) old reading
+          same_outline (depth is_block_open is_block_close 0) (λ ns. depth_map is_block_open is_block_close outline (λ n. refl) (λ n. refl) 0 ns) reading (layered old.layers)
           ∙ balanced_depth is_block_open is_block_close 0 reading.source_nodes b.0;
       warichu =
-          same_outline (depth is_warichu_open is_warichu_close 0) (λ ns. depth_map is_warichu_open is_warichu_close outline (λ n. refl) (λ n. refl) 0 ns) old reading
+          same_outline (depth is_warichu_open is_warichu_close 0) (λ ns. depth_map is_warichu_open is_warichu_close outline (λ n. refl) (λ n. refl) 0 ns) reading (layered old.layers)
           ∙ balanced_depth is_warichu_open is_warichu_close 0 reading.source_nodes b.1;
     }

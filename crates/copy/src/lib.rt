@@ -9,7 +9,7 @@ ghost use Rattle.copy.specs.Copying.{copied_of};
 
 use refusal::Refusal;
 
-// How many bytes of the two result buffers the copy takes.
+// How many bytes of the two result buffers the book takes, a copy here or a flat one (crate `flatten`).
 #[derive(Clone, Copy, Debug, PartialEq, Eq)]
 pub struct Copied {
     pub tape: usize,

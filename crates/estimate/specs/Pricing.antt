@@ -13,6 +13,7 @@ use Rattle.model.specs.Graft.{layered, graft_node_refs}
 use Rattle.model.specs.Region.{Edit, edited}
 use Rattle.model.specs.Merge.{stored_of, MergeWindow, fitted, merged_book, merged_normalized, grafted}
 use Rattle.model.specs.Estimate.{Estimate, over, is_over, length_before, price_of, estimate}
+use Rattle.laws.specs.Parts.{strings_bytes}
 use Rattle.wire.specs.Loops.{by_bool}
 use Rattle.refusal.specs.Refusal.{checked_map}
 use Rattle.places.specs.declared.Places.{Places}
@@ -29,7 +30,6 @@ use Rattle.merged_lists.specs.declared.Lengths.{Lengths}
 use Rattle.merged_lists.specs.Sizes.{lengths_of}
 use Rattle.fitting.specs.Books.{Books, book_in}
 use Rattle.result.specs.Books.{lengths_read}
-use Rattle.result.specs.Parts.{old_string_bytes}
 use Rattle.result.specs.Whole.{base_is}
 use Rattle.fitting.specs.Stages.{books_fitted}
 use Rattle.estimate.specs.declared.Price.{Price}
@@ -133,9 +133,9 @@ module _ {t d : List ℕ} {p : Places} {st : Store} {e : Edit} {w : MergeWindow}
       let c₂ : a.contents ≡ length (graft_node_refs (shown_nodes read) (layered old.layers)).1.contents = omega (arith, k.contents) in
       let c₃ : a.segments ≡ length (graft_node_refs (shown_nodes read) (layered old.layers)).1.segments = omega (arith, k.segments) in
       let x = length-append (edited old.sanitized e) (merged_normalized w old read) in
-      let y = length-append (edited old.sanitized e ++ merged_normalized w old read) (old_string_bytes old) in
+      let y = length-append (edited old.sanitized e ++ merged_normalized w old read) (strings_bytes old) in
       let i = base_is b z in
-      let m : l.base ≡ length (edited old.sanitized e) + length (merged_normalized w old read) + length (old_string_bytes old) = omega (arith, x, y, i) in
+      let m : l.base ≡ length (edited old.sanitized e) + length (merged_normalized w old read) + length (strings_bytes old) = omega (arith, x, y, i) in
       h ∙ sizes_told a q.nodes.count l.base (f rd) ∙ (λ j. price_value (three_of (n j) (c₁ j) (c₂ j) (c₃ j) (m j)))
 
 -- ---- 1 to 17, then the price

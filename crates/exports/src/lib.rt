@@ -13,6 +13,7 @@ ghost use Rattle.model.specs.Lookup.{ask_book, diagnostics_allow_incremental, no
 ghost use Rattle.model.specs.Lookup.{copied_tape, copied_bytes};
 ghost use Rattle.model.specs.Demand3.{correction_of};
 ghost use Rattle.model.specs.Desk.{merge_for_desk};
+ghost use Rattle.model.specs.Flatten.{flatten_book};
 ghost use Rattle.store.specs.Stored.{store_at};
 ghost use Rattle.store.specs.Standing.{content_place, segment_place};
 ghost use Rattle.bounds.specs.Search.{found_of};
@@ -110,6 +111,23 @@ pub extern "C" fn aozora_copy_book(
         × (out_bytes.new ≡ copied_bytes (length out_bytes.old) copy) }
 {
     book_answers::copy_book(tape, bytes, out_tape, out_bytes)
+}
+
+#[unsafe(no_mangle)]
+pub extern "C" fn aozora_flatten_book(
+    tape: &[u8],
+    bytes: &[u8],
+    out_tape: &mut [u8],
+    out_bytes: &mut [u8],
+    work: &mut [u32],
+) -> answers::CopyAnswer
+    ensures { let flat = flatten_book (stored_of tape.now bytes.now) (room_of out_tape.old out_bytes.old work.old) in
+        (result ≡ copy_answer (copied_of flat))
+        × (out_tape.new ≡ copied_tape (length out_tape.old) flat)
+        × (out_bytes.new ≡ copied_bytes (length out_bytes.old) flat)
+        × (work.new ≡ zeros (length work.old)) }
+{
+    answers::CopyAnswer::from(flatten::flatten_book(tape, bytes, out_tape, out_bytes, work))
 }
 
 #[unsafe(no_mangle)]

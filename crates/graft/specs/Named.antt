@@ -1,6 +1,6 @@
 -- The last answer's string by its representative (crate `representatives`): so that equal long strings are not compared again and again.
-use Rattle.std.specs.Prelude.{◌≡◌, refl, Option, Some, None, IfSome, ℕ, ◌+◌, ◌-◌, ◌≤◌, Bool, true, List, length, take, drop}
-use Rattle.std.proofs.Common.{sym, ap, ◌∙◌, arith, length-drop, drop-drop, take_all, eqb-true}
+use Rattle.std.specs.Prelude.{◌≡◌, refl, Option, Some, None, IfSome, ℕ, ◌+◌, Bool, true, List, drop}
+use Rattle.std.proofs.Common.{sym, ap, ◌∙◌, eqb-true}
 use Rattle.std.proofs.lemmas.Bool.{false≢true}
 use Rattle.model.specs.Bytes.{word_at}
 use Rattle.model.specs.Store.{NodeStore, store_of, resolve_str}
@@ -15,10 +15,6 @@ use Rattle.graft.specs.declared.Mark.{Mark}
 abbrev pub source_store : List ℕ → List ℕ → NodeStore
 source_store t d = store_of (layers_at t (places t).layers (drop (word_at t 1 + word_at t 5) d))
 
--- the work words behind the index: pairs of the source's long strings
-abbrev pub pair_words : List ℕ → List ℕ
-pair_words work = drop (16384 - 15360) (drop 15360 work)
-
 -- where a representative is known, the last answer's string is the one that it shows
 abbrev pub Named : List ℕ → List ℕ → List ℕ → List ℕ → Mark → Type 0
 Named t d work strs m = (r : ℕ) → m.answered ≡ Some r → holds (state_of work strs m.state).strings m.state.last (resolve_str (source_store t d) r) ≡ true
@@ -27,13 +23,10 @@ Named t d work strs m = (r : ℕ) → m.answered ≡ Some r → holds (state_of 
 abbrev pub ShowsAs : List ℕ → List ℕ → Option ℕ → ℕ → Type 0
 ShowsAs t d known id = (r : ℕ) → known ≡ Some r → resolve_str (source_store t d) r ≡ resolve_str (source_store t d) id
 
--- the words behind the index, as they are lent
-pub pairs_lent : (work : List ℕ) → 16384 ≤ length work → take (length work - 16384) (drop 16384 work) ≡ pair_words work
-pairs_lent work h = take_all (length work - 16384) (drop 16384 work) (rw length-drop (omega arith)) ∙ sym (drop-drop (16384 - 15360) 15360 work)
-
-pub shows_by : (t d work : List ℕ) → 16384 ≤ length work → Pairs (resolve_str (source_store t d)) (pair_words work) → {known : Option ℕ} (id : ℕ)
-    → ((K : ℕ → List ℕ) → Pairs K (take (length work - 16384) (drop 16384 work)) → IfSome known (λ (r : ℕ). K r ≡ K id)) → ShowsAs t d known id
-shows_by t d work h q id f r e = rw e at (f (resolve_str (source_store t d)) (rw (pairs_lent work h) q))
+-- so what is found among pairs of the source's strings
+pub shows_by : (t d : List ℕ) {pairs : List ℕ} → Pairs (resolve_str (source_store t d)) pairs → {known : Option ℕ} (id : ℕ)
+    → ((K : ℕ → List ℕ) → Pairs K pairs → IfSome known (λ (r : ℕ). K r ≡ K id)) → ShowsAs t d known id
+shows_by t d q id f r e = rw e at (f (resolve_str (source_store t d)) q)
 
 -- a string whose representative is that of the last answer's string is that string
 module _ (t d work strs : List ℕ) (m : Mark) where

@@ -36,7 +36,7 @@ space_left a b s = record {
 }
 
 pub ready_left : {t d : List ℕ} {p : Plan} {m : Mark} {out work strs : List ℕ} (a b : Added) → Ready t d p m out work strs (add a b) → Ready t d p m out work strs a
-ready_left a b r = record { index = r.index; pairs = r.pairs; good = r.good; named = r.named; has = r.has; space = space_left a b r.space }
+ready_left a b r = record { index = r.index; good = r.good; named = r.named; has = r.has; space = space_left a b r.space }
 
 module _ {t d : List ℕ} (p : Plan) (m : Mark) (out work strs : List ℕ) {out' work' strs' : List ℕ} {r : Mark} {g : NewLayer} (x : Made t d p m out work strs out' work' strs' r g) (a : Added) (k : Grew (layer_from p work strs m) g a) where
   calls_on : r.state.stats.calls ≡ m.state.stats.calls + a.calls
@@ -58,7 +58,6 @@ module _ {t d : List ℕ} (p : Plan) (m : Mark) (out work strs : List ℕ) {out'
       → Ready t d p m out work strs (add a b) → Ready t d p r tape work' strs' b
   ready_next {tape} b o l y = record {
     index = rw x.free y.index;
-    pairs = rw x.free y.pairs;
     good = x.good;
     named = x.named;
     has = (λ i. has_room (x.long i) (x.base i) (x.state i)) ∙ sym o;

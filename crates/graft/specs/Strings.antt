@@ -1,7 +1,7 @@
 -- Section 3: where a string's bytes stand.
 use Rattle.std.specs.Prelude.{◌≡◌, Option, Some, None, ℕ, suc, ◌+◌, ◌-◌, ◌≤◌, ◌<◌, ◌^◌, length, get_or}
 use Rattle.std.proofs.Math.Path.{sym, ap}
-use Rattle.std.proofs.Common.{refl, true≢false, ◌∙◌, drop-drop}
+use Rattle.std.proofs.Common.{refl, true≢false, ◌∙◌, drop-drop, length-drop, take_all}
 use Rattle.std.proofs.lemmas.Option.{none-some, same_Some}
 use native.Mathlib.Omega.{arith}
 use mathlib.Core.List.{List, flatten}
@@ -20,13 +20,17 @@ use Rattle.intern.specs.Calls.{each_way, answered_base, last_holds}
 use Rattle.graft.specs.Blocks.{blocks_none}
 use Rattle.graft.specs.Grafted.{layer_from, content_at, segment_at}
 use Rattle.graft.specs.Named.{source_store, ShowsAs}
-use Rattle.graft.specs.Walk.{Source, string_from, StartTold}
+use Rattle.graft.specs.Walk.{Source, string_from, index_words, StartTold}
 use Rattle.graft.specs.declared.Plan.{Plan}
 use Rattle.graft.specs.declared.Mark.{Mark}
 use Rattle.store.specs.Pools.{before_next, before_most}
 use Rattle.store.specs.Standing.{all_lengths, length_at, string_at_lem}
 use Rattle.store.specs.declared.Store.{Store}
 use Rattle.strings.specs.Starts.{OfTape, Readable, lengths_bytes, readable}
+
+-- the index, as the code lends it
+pub index_lent : (work : List ℕ) → take (length work - 15360) (drop 15360 work) ≡ index_words work
+index_lent work = take_all (length work - 15360) (drop 15360 work) (rw length-drop (omega arith))
 
 module _ {t d : List ℕ} {st : Store} (s : Source t d st) where
   pub header_inside : 9 ≤ length t

@@ -1,5 +1,5 @@
 -- What each function of the writing walk is told of its source and its room, and what it answers.
-use Rattle.std.specs.Prelude.{◌≡◌, Bool, Option, Some, is_some, ℕ, ◌+◌, ◌-◌, ◌*◌, ◌≤◌, ◌<◌, ◌^◌, true, cond, List, length, take, drop, set, replicate, eqb}
+use Rattle.std.specs.Prelude.{◌≡◌, Bool, Option, Some, is_some, ℕ, ◌+◌, ◌*◌, ◌≤◌, ◌<◌, ◌^◌, true, cond, List, length, take, drop, set, replicate, eqb}
 use Rattle.model.specs.Lists.{all, sum}
 use Rattle.model.specs.Limits.{no_string}
 use Rattle.model.specs.Bytes.{word_at}
@@ -21,9 +21,8 @@ use Rattle.sizes.specs.Order.{place_field, place_fields}
 use Rattle.sizes.specs.Words.{UsedWords}
 use Rattle.sizes.specs.Added.{Added}
 use Rattle.graft.specs.Grafted.{layer_from, Told}
-use Rattle.graft.specs.Named.{source_store, pair_words, Named}
+use Rattle.graft.specs.Named.{source_store, Named}
 use Rattle.graft.specs.Runs.{ItemsTold}
-use Rattle.representatives.specs.Pairs.{Pairs}
 use Rattle.graft.specs.declared.Plan.{Plan}
 use Rattle.graft.specs.declared.Mark.{Mark}
 
@@ -40,9 +39,9 @@ pub record Source (t d : List ℕ) (st : Store) : Type 0 where
 abbrev pub string_from : List ℕ → ℕ → ℕ
 string_from t id = word_at t 1 + word_at t 5 + sum (take id (all_lengths t (places t).layers))
 
--- the work words behind the interner's: the index of the source's strings
+-- the work words behind the interner's, as many as are lent: the index of the source's strings
 abbrev pub index_words : List ℕ → List ℕ
-index_words work = take (16384 - 15360) (drop 15360 work)
+index_words work = drop 15360 work
 
 -- the trees of the contents, or segments, that stand from `at` on
 abbrev pub shown_contents : ℕ → List ℕ → List ℕ → List Content → NewLayer → With (List Content)
@@ -86,7 +85,6 @@ SegmentsTold t d p m to = ItemsTold t d segment_codec p m (p.segments_at + 37 * 
 -- what a function of the walk is given
 pub record Ready (t d : List ℕ) (p : Plan) (m : Mark) (out work strs : List ℕ) (a : Added) : Type 0 where
   pub index : Indexed (lengths_in t) (index_words work)
-  pub pairs : Pairs (resolve_str (source_store t d)) (pair_words work)
   pub good : Good work strs m.state
   pub named : Named t d work strs m
   pub has : has_room (length strs) m.state.base (state_of work strs m.state) ≡ true

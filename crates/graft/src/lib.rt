@@ -22,8 +22,7 @@ ghost use Rattle.ids.specs.Tests.{body_in, content_in, segment_in, contents_in, 
 ghost use Rattle.sizes.specs.InPlace.{inner_adds, body_adds, place_adds, used_adds, content_adds, contents_add, content_run_adds, segments_add, segment_run_adds};
 ghost use Rattle.graft.specs.Grafted.{layer_from};
 ghost use Rattle.graft.specs.Walk.{Ready, body_from, place_from, content_run_from, segment_run_from, field_from};
-ghost use Rattle.graft.specs.Named.{source_store, pair_words, Named, ShowsAs};
-ghost use Rattle.representatives.specs.Pairs.{Pairs};
+ghost use Rattle.graft.specs.Named.{source_store, Named};
 ghost use Rattle.graft.specs.Walk.{Source, index_words, string_from, shown_contents, shown_segments, StartTold, id_from, WordsTold, ContentsTold, SegmentsTold};
 ghost use Rattle.records.specs.Uses.{use_number};
 ghost use Rattle.sizes.specs.Words.{words_of};
@@ -67,8 +66,8 @@ pub struct Mark {
 }
 
 // ---- strings. What is asked of the index and of the interner stands at each function, for its buffers are lent one by one, as those of the
-// walk below. The work words are not parted once: the interner asks for 16384 of them and leaves the last 1024 to the index; pairs stand behind.
-// So no `Strings` can lend the index while a string is interned, and its bytes are cut out here.
+// walk below. The work words are not parted once: the interner asks for 16384 of them and uses 15360, and all from there on are the index. So no
+// `Strings` can lend the index while a string is interned, and its bytes are cut out here.
 
 // Where the bytes of a string of the source begin; `words` are the index of its strings.
 fn string_from(w: &Walk<'_>, words: &[u32], id: u32) -> usize
@@ -101,7 +100,7 @@ fn intern_str(
     if is_last {
         return Some(intern::intern_last(state));
     }
-    let from = string_from(w, &work[15360..16384], id);
+    let from = string_from(w, &work[15360..], id);
     let len = strings::string_length(w.tape, w.st, id);
     intern::intern(state, work, strs, &w.bytes[from..from + len])
 }
@@ -116,13 +115,13 @@ fn is_answered(known: Option<u32>, answered: Option<u32>) -> bool
 
 // Section 5. `graft_str`. Where the representative is that of the last answer's string, nothing is compared.
 fn graft_str(w: &Walk<'_>, work: &mut [u32], strs: &mut [u8], m: &mut Mark, id: u32) -> Option<u32>
-    requires indexed { Indexed (lengths_in w.now.tape.now) (index_words work.old) × Pairs (resolve_str (source_store w.now.tape.now w.now.bytes.now)) (pair_words work.old) }
+    requires indexed { Indexed (lengths_in w.now.tape.now) (index_words work.old) }
     requires good { Good work.old strs.old m.old.state × Named w.now.tape.now w.now.bytes.now work.old strs.old m.old }
     requires id_lt_strings { (id < w.now.st.now.totals.strings) × (m.old.state.stats.calls < 2 ^ 32) × (w.now.plan.strings + 2 ^ 12 < 2 ^ 32) }
     ensures { (out : List ℕ) → StartTold w.now.tape.now w.now.bytes.now w.now.plan m.old out work.old strs.old out work.new strs.new m.new result
         (graft_str (resolve_str (source_store w.now.tape.now w.now.bytes.now) id) (layer_from w.now.plan work.old strs.old m.old)) }
 {
-    let known = representatives::representative(&work[16384..work.len()], id);
+    let known = representatives::representative(w.pairs, id);
     let is_last = is_answered(known, m.answered);
     let string = intern_str(w, work, strs, &mut m.state, is_last, id)?;
     m.answered = known;
@@ -139,7 +138,7 @@ fn graft_string(
     usage: Use,
     id: u32,
 ) -> Option<u32>
-    requires indexed { Indexed (lengths_in w.now.tape.now) (index_words work.old) × Pairs (resolve_str (source_store w.now.tape.now w.now.bytes.now)) (pair_words work.old) }
+    requires indexed { Indexed (lengths_in w.now.tape.now) (index_words work.old) }
     requires good { Good work.old strs.old m.old.state × Named w.now.tape.now w.now.bytes.now work.old strs.old m.old }
     requires has_room { has_room (length strs.old) m.old.state.base (state_of work.old strs.old m.old.state) ≡ true }
     requires id_value { (used_well w.now.st.now (use_number usage) id 0 ≡ true) × (m.old.state.stats.calls < 2 ^ 32) × (w.now.plan.strings + 2 ^ 12 < 2 ^ 32) }

@@ -16,7 +16,7 @@ use Rattle.model.specs.Store.{string_counts, content_counts, segment_counts}
 use Rattle.model.specs.Tape.{parse}
 use Rattle.model.specs.WellFormed.{texts_are_utf8, within_limits, content_ok, segment_ok, node_ok, ids_ok, levels_ok, span_ok, ordered, offsets_ok, pair_ok, container_ok, diagnostic_ok, places_ok, images, spans, normalized_length_ok, laid_out, well_formed, check_book, check_reading}
 use Rattle.model.specs.Region.{Edit, edited, edit_ok, balanced_region, is_whole, has_ruby_format_dependency, chosen_region}
-use Rattle.model.specs.Merge.{Stored, Room, IncrementalOutput, window_of, new_region_text, balanced_nodes, is_unclosed, mark_at_empty_region, introduces_ruby_format_dependency, cuts_ok, grafted, merged_book, answer, fits_room, result_ok, fitting, result_checked, merge_books, merge, MergeWindow}
+use Rattle.model.specs.Merge.{Stored, Room, IncrementalOutput, window_of, new_region_text, balanced_nodes, is_unclosed, mark_at_empty_region, introduces_ruby_format_dependency, cuts_ok, grafted, merged_book, answer, fits_room, result_ok, fitting, result_checked, merge_books, merge, MergeWindow, Fitted, fitted}
 use Rattle.laws.specs.Lists.{both, neither, same_eq}
 
 -- ---- steps of a chain
@@ -319,6 +319,25 @@ merge_facts old e r reading room m q =
       work = leb-true min_work_words room.work_words u₃.1;
       result = sym same_answer;
     }
+
+-- what passed 1 to 17: its book, region, reading and window
+pub record FittedAccepted (s : Stored) (e : Edit) (rs : Stored) (f : Fitted) : Type 0 where
+  pub region : Span
+  pub book : check_book s.tape s.bytes ≡ accepted f.old
+  pub chosen : chosen_region f.old e ≡ accepted region
+  pub read : check_reading rs.tape rs.bytes ≡ accepted f.reading
+  pub window : window_of f.old e f.reading region ≡ f.window
+  pub passed : Passed f.old e region f.reading
+
+pub fitted_accepted : (s : Stored) (e : Edit) (rs : Stored) (f : Fitted) → fitted s e rs ≡ accepted f → FittedAccepted s e rs f
+unfolding fitted
+fitted_accepted s e rs f q =
+    let s₁ = bind_accepted (check_book s.tape s.bytes) _ f q in
+    let s₂ = bind_accepted (chosen_region s₁.0 e) _ f s₁.2 in
+    let s₃ = bind_accepted (check_reading rs.tape rs.bytes) _ f s₂.2 in
+    let s₄ = bind_accepted (fitting s₁.0 e s₂.0 s₃.0) _ f s₃.2 in
+    let p = fitting_passed s₁.0 e s₂.0 s₃.0 s₄.0 s₄.1 in
+    subst (FittedAccepted s e rs) (same_accepted _ f s₄.2) (record { region = s₂.0; book = s₁.1; chosen = s₂.1; read = s₃.1; window = p.0; passed = p.1 })
 
 -- a whole merge: its book, region and reading, and what 12 to 18 say of them
 pub record MergeAccepted (s : Stored) (e : Edit) (rs : Stored) (room : Room) (m : IncrementalOutput) : Type 0 where

@@ -187,15 +187,18 @@ more_layers ls more = record {
 }
 
 -- number 4's test, of the pools
-pub ids_pools : (b : LexOutput) → ids_ok b ≡ true → (all (content_ok b.layers) (store_of b.layers).contents ≡ true) × (all (segment_ok b.layers) (store_of b.layers).segments ≡ true)
+pub pool_ids : (ls : List Layer) → all (λ (l : Layer). all (content_ok ls) l.contents && all (segment_ok ls) l.segments) ls ≡ true
+    → (all (content_ok ls) (store_of ls).contents ≡ true) × (all (segment_ok ls) (store_of ls).segments ≡ true)
 unfolding store_of
-ids_pools b e =
-    let ls = b.layers in
-    let layer : Layer → Bool = λ l. all (content_ok ls) l.contents && all (segment_ok ls) l.segments in
-    let i = (id_facts b e).pools in (
+pool_ids ls i =
+    let layer : Layer → Bool = λ l. all (content_ok ls) l.contents && all (segment_ok ls) l.segments in (
       pool_all (λ (l : Layer). l.contents) (content_ok ls) ls ∙ all_map layer (λ (l : Layer). all (content_ok ls) l.contents) (λ l h. (both (all (content_ok ls) l.contents) (all (segment_ok ls) l.segments) h).0) ls i,
       pool_all (λ (l : Layer). l.segments) (segment_ok ls) ls ∙ all_map layer (λ (l : Layer). all (segment_ok ls) l.segments) (λ l h. (both (all (content_ok ls) l.contents) (all (segment_ok ls) l.segments) h).1) ls i,
     )
+
+-- the same, of a book that passes it
+pub ids_pools : (b : LexOutput) → ids_ok b ≡ true → (all (content_ok b.layers) (store_of b.layers).contents ≡ true) × (all (segment_ok b.layers) (store_of b.layers).segments ≡ true)
+ids_pools b e = pool_ids b.layers (id_facts b e).pools
 
 -- ---- ids and ranges of fewer layers are right
 

@@ -6,6 +6,8 @@ pub mod Records
 pub mod RoundTrip
 pub mod WriteRead
 pub mod ReadFits
+pub mod Parts
+pub mod Result
 pub mod Numbers
 pub mod Ordered
 pub mod Keep

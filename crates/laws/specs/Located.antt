@@ -217,7 +217,7 @@ module _ {A : Type 0} {l : Located A} {w : MergeWindow} {ok okR : A → Bool} {s
 
 module _ {A : Type 0} (l : Located A) (w : MergeWindow) where
   -- an element that is not empty
-  pub wide_side : (l.window w).start ≤ (l.window w).end → (x : A) → start_of l x < end_of l x → one_side l w x ≡ true
+  wide_side : (l.window w).start ≤ (l.window w).end → (x : A) → start_of l x < end_of l x → one_side l w x ≡ true
   wide_side h x g = go (is_before l w x) refl
     where
       go : (s : Bool) → is_before l w x ≡ s → not (s && is_behind l w x) ≡ true
@@ -236,7 +236,7 @@ module _ {A : Type 0} (l : Located A) (w : MergeWindow) where
   wide_once {ok} wide h old a = kept_once old (all_map ok (one_side l w) (λ x o. wide_side h x (wide x o)) old a)
 
   -- What is on both sides of a list, its parts have there.
-  pub once_parts : (a b : List A) → on_both_sides l w (a ++ b) ≡ [] → (on_both_sides l w a ≡ []) × (on_both_sides l w b ≡ [])
+  once_parts : (a b : List A) → on_both_sides l w (a ++ b) ≡ [] → (on_both_sides l w a ≡ []) × (on_both_sides l w b ≡ [])
   unfolding on_both_sides kept_before kept_behind
   once_parts a b e =
       empty_parts (on_both_sides l w a) (on_both_sides l w b)
@@ -247,11 +247,11 @@ module _ {A : Type 0} (l : Located A) (w : MergeWindow) where
       empty_parts (x ∷ a) b e = absurd (cons≢nil e)
 
   -- Where all counts on one side, nothing counts on the other.
-  pub none_behind : (a : List A) → on_both_sides l w a ≡ [] → keep (is_before l w) a ≡ a → keep (is_behind l w) a ≡ []
+  none_behind : (a : List A) → on_both_sides l w a ≡ [] → keep (is_before l w) a ≡ a → keep (is_behind l w) a ≡ []
   unfolding on_both_sides kept_before kept_behind
   none_behind a e f = ap (keep (is_behind l w)) (sym f) ∙ keep_comm (is_behind l w) (is_before l w) a ∙ e
 
-  pub none_before : (a : List A) → on_both_sides l w a ≡ [] → keep (is_behind l w) a ≡ a → keep (is_before l w) a ≡ []
+  none_before : (a : List A) → on_both_sides l w a ≡ [] → keep (is_behind l w) a ≡ a → keep (is_before l w) a ≡ []
   unfolding on_both_sides kept_before kept_behind
   none_before a e f = ap (keep (is_before l w)) (sym f) ∙ e
 

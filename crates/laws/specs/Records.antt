@@ -207,7 +207,7 @@ pub record RunStands {A : Type 0} (c : Codec A) (t : List ℕ) (p : ℕ) (xs : L
   pub records : records_at c t p (count_at c t p) ≡ xs
   pub rest : Stands t (p + record_size c * count_at c t p) l
 
-tabulate_same : {A : Type 0} (n : ℕ) (f g : ℕ → A) → ((i : ℕ) → f i ≡ g i) → tabulate n f ≡ tabulate n g
+pub tabulate_same : {A : Type 0} (n : ℕ) (f g : ℕ → A) → ((i : ℕ) → f i ≡ g i) → tabulate n f ≡ tabulate n g
 tabulate_same zero f g e = refl
 tabulate_same (suc n) f g e = ap₂ (λ x xs. x ∷ xs) (e zero) (tabulate_same n (λ i. f (suc i)) (λ i. g (suc i)) (λ i. e (suc i)))
 

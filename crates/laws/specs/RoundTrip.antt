@@ -100,7 +100,7 @@ layer_read t p d b e inside enough =
     ∙ sym (part_add t (p + 1) (5 * s) (10 * c + 37 * g)))
     ∙ sym (part_add t p 1 (5 * s + (10 * c + 37 * g)) ∙ ap (λ (l : List ℕ). l ++ part t (p + 1) (5 * s + (10 * c + 37 * g))) (part_cons t p 0 (omega arith)))
 
-layers_rise : (t : List ℕ) (n p : ℕ) → p ≤ layers_end p (layers_from n t p)
+pub layers_rise : (t : List ℕ) (n p : ℕ) → p ≤ layers_end p (layers_from n t p)
 unfolding layers_end layers_from
 layers_rise t zero p = omega arith
 layers_rise t (suc n) p = go (layers_rise t n (layer_places t p).end_at) (eqb (byte_at t p) 2)

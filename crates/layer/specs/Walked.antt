@@ -1,12 +1,11 @@
 -- The walk over a source's nodes, from a fresh interner on: what it asks, and what it has done in the terms of the new layer.
 use Rattle.std.proofs.lemmas.Option.{none-some, same_Some}
 use Rattle.std.specs.Prelude.{◌≡◌, Option, Some, None, is_some, false, refl, ℕ, ◌+◌, ◌-◌, ◌*◌, ◌≤◌, ◌<◌, ◌^◌, true, length, take, drop}
-use Rattle.std.proofs.Common.{sym, ap, ◌∙◌, subst, length-drop, length-take-le, take_at, drop_at}
+use Rattle.std.proofs.Common.{sym, ap, ◌∙◌, subst, append-nil, length-drop, length-take-le, drop_of_length-le, drop_at}
 use native.Mathlib.Omega.{arith}
 use mathlib.Core.List.{List, [], ◌++◌}
 use Rattle.model.specs.Limits.{min_work_words}
 use Rattle.model.specs.Types.{SourceNode}
-use Rattle.model.specs.Store.{resolve_str}
 use Rattle.model.specs.Intern.{StrInterner}
 use Rattle.model.specs.Tape.{records_at, records_bytes, content_codec, segment_codec, node_codec}
 use Rattle.model.specs.Graft.{With, graft_node_refs}
@@ -15,7 +14,7 @@ use Rattle.places.specs.declared.Places.{Places}
 use Rattle.store.specs.declared.Store.{Store}
 use Rattle.store.specs.Lengths.{book_lengths}
 use Rattle.strings.specs.Starts.{lengths_in}
-use Rattle.strings.specs.Index.{index_in, Indexed, index_length, index_written}
+use Rattle.strings.specs.Index.{Indexed}
 use Rattle.table.specs.Layout.{with_start}
 use Rattle.table.specs.Wide.{start_high}
 use Rattle.interner.specs.declared.StrInterner.{StrInterner as Interner}
@@ -27,9 +26,7 @@ use Rattle.graft.specs.declared.Plan.{Plan}
 use Rattle.graft.specs.declared.Mark.{Mark}
 use Rattle.graft.specs.Blocks.{blocks}
 use Rattle.graft.specs.Grafted.{layer_from}
-use Rattle.graft.specs.Named.{source_store, pair_words}
 use Rattle.graft.specs.Walk.{index_words, Ready}
-use Rattle.representatives.specs.Pairs.{Pairs}
 use Rattle.graft.specs.NodeItems.{shown_of, NodesTold, refs_from}
 use Rattle.store.specs.declared.Totals.{Totals}
 use Rattle.layer.specs.Source.{SourceFits, source_adds_lem, source_shown}
@@ -45,25 +42,18 @@ fresh_mark r = record { contents = 0; segments = 0; state = r; answered = None }
 -- ---- the index
 
 -- the words lent for the index, as they come back
-pub index_there : (lengths work : List ℕ) → min_work_words ≤ length work → {ys : List ℕ} → ys ≡ overwrite (index_words work) 0 (index_in lengths (index_words work))
-    → Indexed lengths (index_words (take 15360 work ++ (ys ++ drop (16384 - 15360) (drop 15360 work))))
-index_there lengths work h {ys} e =
-    let n : length ys ≡ 16384 - 15360 = index_length lengths (index_words work) e ∙ length-take-le (16384 - 15360) (drop 15360 work) (rw length-drop (omega (arith, h))) in
-    let rest = drop (16384 - 15360) (drop 15360 work) in
-    index_written lengths (index_words work)
-    (ap (λ (l : List ℕ). take (16384 - 15360) l) (drop_at (take 15360 work) (ys ++ rest) 15360 (length-take-le 15360 work (omega (arith, h)))) ∙ take_at ys rest (16384 - 15360) n ∙ e)
-
--- the words behind it stay
-pub pairs_there : (lengths work : List ℕ) → min_work_words ≤ length work → (ys : List ℕ) → ys ≡ overwrite (index_words work) 0 (index_in lengths (index_words work))
-    → pair_words (take 15360 work ++ (ys ++ drop (16384 - 15360) (drop 15360 work))) ≡ pair_words work
-pairs_there lengths work h ys e =
-    let n : length ys ≡ 16384 - 15360 = index_length lengths (index_words work) e ∙ length-take-le (16384 - 15360) (drop 15360 work) (rw length-drop (omega (arith, h))) in
-    let rest = drop (16384 - 15360) (drop 15360 work) in
-    ap (λ (l : List ℕ). drop (16384 - 15360) l) (drop_at (take 15360 work) (ys ++ rest) 15360 (length-take-le 15360 work (omega (arith, h)))) ∙ drop_at ys rest (16384 - 15360) n
+pub index_there : (lengths work : List ℕ) → min_work_words ≤ length work → {ys : List ℕ} → Indexed lengths ys
+    → Indexed lengths (index_words (take 15360 work ++ (ys ++ drop (length work - 15360) (drop 15360 work))))
+index_there lengths work h {ys} i =
+    let rest = drop (length work - 15360) (drop 15360 work) in
+    let none : rest ≡ [] = drop_of_length-le (drop 15360 work) {i = length work - 15360} (rw length-drop (omega arith)) in
+    let is : index_words (take 15360 work ++ (ys ++ rest)) ≡ ys =
+    drop_at (take 15360 work) (ys ++ rest) 15360 (length-take-le 15360 work (omega (arith, h))) ∙ ap (λ (l : List ℕ). ys ++ l) none ∙ append-nil ys in
+    rw is i
 
 -- a fresh interner writes before it
 index_kept : (t work₀ : List ℕ) (base : ℕ) {work : List ℕ} → work ≡ with_start work₀ 0 base → Indexed (lengths_in t) (index_words work₀) → Indexed (lengths_in t) (index_words work)
-index_kept t work₀ base e i = rw (ap index_words e ∙ ap (λ (l : List ℕ). take (16384 - 15360) l) (start_high work₀ 0 base 15360 (omega arith))) i
+index_kept t work₀ base e i = rw (ap index_words e ∙ start_high work₀ 0 base 15360 (omega arith)) i
 
 -- ---- the walk
 
@@ -91,16 +81,15 @@ pub record Walked (p : Plan) (base nodes_at : ℕ) (out strs out' work' strs' : 
   pub room : is_some r ≡ has_room (length strs) base g.1.interner
   pub made : (m : Mark) → r ≡ Some m → WalkMade p base nodes_at out strs out' work' strs' m g
 
--- a source, an index of its strings, their pairs, and an interner that has nothing yet
+-- a source, an index of its strings, and an interner that has nothing yet
 pub record Begun (t d : List ℕ) (q : Places) (st : Store) (work₀ strs work : List ℕ) (base : ℕ) (s : Interner) : Type 0 where
   pub source : SourceFits t d q st
   pub fresh : Fresh work₀ strs base work s
   pub index : Indexed (lengths_in t) (index_words work₀)
-  pub pairs : Pairs (resolve_str (source_store t d)) (pair_words work₀)
 
 pub begun : {t d : List ℕ} {q : Places} {st : Store} → SourceFits t d q st → {work₀ strs work : List ℕ} {base : ℕ} {s : Interner} → Fresh work₀ strs base work s
-    → {ps : List ℕ} → Indexed (lengths_in t) (index_words work₀) × (pair_words work₀ ≡ ps) → Pairs (resolve_str (source_store t d)) ps → Begun t d q st work₀ strs work base s
-begun {t} {d} f b i k = record { source = f; fresh = b; index = i.0; pairs = subst (λ (l : List ℕ). Pairs (resolve_str (source_store t d)) l) (sym i.1) k }
+    → Indexed (lengths_in t) (index_words work₀) → Begun t d q st work₀ strs work base s
+begun f b i = record { source = f; fresh = b; index = i }
 
 module _ {t d : List ℕ} {q : Places} {st : Store} {work₀ strs work : List ℕ} {base : ℕ} {s : Interner} (begin : Begun t d q st work₀ strs work base s) (p : Plan) (nodes_at : ℕ) (out : List ℕ) where
   f : SourceFits t d q st
@@ -115,7 +104,6 @@ module _ {t d : List ℕ} {q : Places} {st : Store} {work₀ strs work : List �
   pub walk_ready : WalkRoom p nodes_at q.nodes.count (length out) (source_adds t d) → Ready t d p (fresh_mark s) out work strs (nodes_add t st q.nodes.at q.nodes.count)
   walk_ready w = rw (source_adds_lem f) (record {
     index = index_kept t work₀ base b.words begin.index;
-    pairs = rw (b.words, start_high work₀ 0 base 15360 (omega arith)) begin.pairs;
     good = b.good;
     named = λ m e. absurd (none-some m e);
     has = sym (room_same work strs s b.good);

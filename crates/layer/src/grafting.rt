@@ -23,7 +23,7 @@ impl<'a> Grafting<'a> {
     ghost use Rattle.std.specs.Prelude.{◌≡◌, ◌+◌, ◌≤◌, length};
     ghost use Rattle.model.specs.Limits.{max_new_strings, min_work_words};
     ghost use Rattle.model.specs.Store.{resolve_str};
-    ghost use Rattle.graft.specs.Named.{source_store, pair_words};
+    ghost use Rattle.graft.specs.Named.{source_store};
     ghost use Rattle.representatives.specs.Pairs.{Pairs};
     ghost use Rattle.layer.specs.Lengths.{Rising};
     ghost use Rattle.layer.specs.Answers.{Finished};
@@ -66,11 +66,17 @@ impl<'a> Grafting<'a> {
         })
     }
 
-    // By these words. Those behind the first 16384, if there are any, are pairs of crate `representatives`.
-    fn graft_by(&self, out: &mut [u8], work: &mut [u32], strs: &mut [u8]) -> Option<Grafted>
+    // By these work words, and these pairs of the source's long strings.
+    fn graft_by(
+        &self,
+        out: &mut [u8],
+        work: &mut [u32],
+        strs: &mut [u8],
+        pairs: &[u32],
+    ) -> Option<Grafted>
         requires min_work_words_in_bounds { (min_work_words ≤ length work.old) × (self.now.to.base ≤ length strs.old)
             × (self.now.to.at ≤ length out.old) }
-        requires pairs { Pairs (resolve_str (source_store self.now.source.now.tape.now self.now.source.now.bytes.now)) (pair_words work.old) }
+        requires pairs { Pairs (resolve_str (source_store self.now.source.now.tape.now self.now.source.now.bytes.now)) pairs.now }
         ensures { GraftingTold self.now out.old strs.old out.new strs.new result }
     {
         let to = self.to;
@@ -79,27 +85,29 @@ impl<'a> Grafting<'a> {
             return None;
         }
         let plan = crate::plan_of(to.below, to.at, self.sizes.contents);
-        let m = crate::walk(self.source, out, work, strs, plan, to.base, to.at + len)?;
+        let m = crate::walk(
+            self.source,
+            out,
+            work,
+            strs,
+            pairs,
+            plan,
+            to.base,
+            to.at + len,
+        )?;
         self.finish(out, work, m)
     }
 
-    // With a representative for each long string, so that no two of them are compared again and again.
-    fn graft_paired(&self, out: &mut [u8], words: &mut [u32], strs: &mut [u8]) -> Option<Grafted>
-        requires min_work_words_in_bounds { (min_work_words < length words.old) × (self.now.to.base ≤ length strs.old)
+    // With a representative for each long string, so that no two of them are compared again and again. The pairs, 4096 at most, stand in
+    // words of our own: the lent ones are the index's.
+    fn graft_long(&self, out: &mut [u8], work: &mut [u32], strs: &mut [u8]) -> Option<Grafted>
+        requires min_work_words_in_bounds { (min_work_words ≤ length work.old) × (self.now.to.base ≤ length strs.old)
             × (self.now.to.at ≤ length out.old) }
         ensures { GraftingTold self.now out.old strs.old out.new strs.new result }
     {
-        crate::pair_words(self.source, words);
-        self.graft_by(out, words, strs)
-    }
-
-    // The same by words of its own, which have room for pairs: of those that are lent no more than 16384 are sure.
-    fn graft_long(&self, out: &mut [u8], strs: &mut [u8]) -> Option<Grafted>
-        requires base_in_bounds { (self.now.to.base ≤ length strs.old) × (self.now.to.at ≤ length out.old) }
-        ensures { GraftingTold self.now out.old strs.old out.new strs.new result }
-    {
-        let mut words = [0u32; 24577];
-        self.graft_paired(out, &mut words[0..24577], strs)
+        let mut pairs = [0u32; 8193];
+        crate::pair_words(self.source, &mut pairs[..]);
+        self.graft_by(out, work, strs, &pairs[..])
     }
 
     // What `graft_layer` answers.
@@ -114,8 +122,8 @@ impl<'a> Grafting<'a> {
             source.store,
             representatives::long_from(source.bytes.len()),
         ) {
-            return self.graft_long(out, strs);
+            return self.graft_long(out, work, strs);
         }
-        self.graft_by(out, &mut work[0..16384], strs)
+        self.graft_by(out, work, strs, &[])
     }
 }

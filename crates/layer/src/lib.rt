@@ -15,7 +15,7 @@ ghost use Rattle.strings.specs.Starts.{lengths_in, Readable};
 ghost use Rattle.strings.specs.Index.{Indexed};
 ghost use Rattle.model.specs.Store.{resolve_str};
 ghost use Rattle.representatives.specs.Pairs.{Pairs};
-ghost use Rattle.graft.specs.Named.{source_store, pair_words};
+ghost use Rattle.graft.specs.Named.{source_store};
 ghost use Rattle.graft.specs.Walk.{index_words};
 ghost use Rattle.layer.specs.Lengths.{new_length, new_lengths, Rising};
 ghost use Rattle.layer.specs.Layered.{room_left, plan_of, source_adds, grafted_into};
@@ -126,25 +126,27 @@ fn plan_of(o: Totals, at: usize, contents: u32) -> graft::Plan
     }
 }
 
-// An index of the source's strings, in the work words that the interner leaves free. They are not parted once, for it asks for all 16384.
+// An index of the source's strings, in all work words that the interner leaves free: the more are lent, the fewer strings a look-up passes. They
+// are not parted once, for the interner asks for 16384.
 fn index_words(source: &Book, work: &mut [u32])
     requires min_work_words_in_bounds { min_work_words ≤ length work.old }
-    ensures { Indexed (lengths_in source.now.tape.now) (index_words work.new) × (pair_words work.new ≡ pair_words work.old) }
+    ensures { Indexed (lengths_in source.now.tape.now) (index_words work.new) }
 {
     strings::index_strings(
         source.tape,
         source.store,
         source.bytes.len(),
-        &mut work[15360..16384],
+        &mut work[15360..],
     );
 }
 
-// Section 5. The source's nodes, grafted into a layer that has nothing yet.
+// Section 5. The source's nodes, grafted into a layer that has nothing yet; `pairs` are of its long strings.
 fn walk(
     source: &Book,
     out: &mut [u8],
     work: &mut [u32],
     strs: &mut [u8],
+    pairs: &[u32],
     plan: graft::Plan,
     base: usize,
     nodes_at: usize,
@@ -152,7 +154,7 @@ fn walk(
     requires walk_room { WalkRoom plan nodes_at source.now.places.nodes.count (length out.old)
         (source_adds source.now.tape.now source.now.bytes.now) }
     requires min_work_words_in_bounds { (min_work_words ≤ length work.old) × (base ≤ length strs.old) }
-    requires pairs { Pairs (resolve_str (source_store source.now.tape.now source.now.bytes.now)) (pair_words work.old) }
+    requires pairs { Pairs (resolve_str (source_store source.now.tape.now source.now.bytes.now)) pairs.now }
     ensures { Walked plan base nodes_at out.old strs.old out.new work.new strs.new result
         (grafted_into source.now.tape.now source.now.bytes.now (offsets_of plan)) }
 {
@@ -161,6 +163,7 @@ fn walk(
         tape: source.tape,
         bytes: source.bytes,
         st: source.store,
+        pairs,
         plan,
     };
     let mut m = graft::Mark {
@@ -173,14 +176,13 @@ fn walk(
     Some(m)
 }
 
-// The pairs of a source's long strings, behind the words that a walk uses.
+// The pairs of a source's long strings.
 fn pair_words(source: &Book, words: &mut [u32])
-    requires min_work_words_in_bounds { min_work_words < length words.old }
-    ensures { Pairs (resolve_str (source_store source.now.tape.now source.now.bytes.now)) (pair_words words.new) }
+    requires { 1 ≤ length words.old }
+    ensures { Pairs (resolve_str (source_store source.now.tape.now source.now.bytes.now)) words.new }
 {
     let least = representatives::long_from(source.bytes.len());
-    let n = words.len();
-    representatives::pair_strings(&source.strings(), &mut words[16384..n], least);
+    representatives::pair_strings(&source.strings(), words, least);
 }
 
 // ---- the layer

@@ -26,7 +26,8 @@ use Rattle.places.specs.declared.Places.{Places}
 use Rattle.tape.specs.Placed.{PlacesFit, fit_nodes, fit_pairs, fit_containers, fit_diagnostics}
 use Rattle.merged_lists.specs.declared.Kept.{Kept}
 use Rattle.merged_lists.specs.Sizes.{sides_of, kept_of, total_of, Small, lists_end}
-use Rattle.merged_lists.specs.Widths.{six_words, nodes_width, nodes_six, spliced_six, pairs_width, containers_width, diagnostics_width, records_moved}
+use Rattle.laws.specs.Parts.{six_words, nodes_width, nodes_six, pairs_width, containers_width, diagnostics_width}
+use Rattle.merged_lists.specs.Widths.{spliced_six, records_moved}
 use Rattle.put_records.specs.Runs.{bytes_append}
 
 -- ---- definitions

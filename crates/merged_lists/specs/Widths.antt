@@ -1,91 +1,24 @@
--- How long the records of the four lists are, and records read at another place: 49 bytes a node, whose body has six words, 18 a
--- pair, 13 a container, 18 a diagnostic.
-use Rattle.std.specs.Prelude.{◌≡◌, ℕ, zero, suc, ◌+◌, ◌*◌, ◌≤◌, ◌<◌, Bool, true, length, get_or, drop, eqb}
+-- The bodies of merged nodes have six words, as many as of a reading are grafted, and records read at another place are the same.
+use Rattle.std.specs.Prelude.{◌≡◌, ℕ, zero, suc, ◌+◌, ◌*◌, ◌≤◌, ◌<◌, true, length, get_or, drop}
 use Rattle.std.proofs.Math.Path.{refl, ap, ap₂}
-use Rattle.std.proofs.Common.{sym, ◌∙◌, arith, mul-le-mul_left, mul-suc, add_assoc, length-append, get_or-take, get_or-drop, eqb-true, eq-eqb}
-use mathlib.Core.List.{List, [], ◌∷◌, map, flatten}
+use Rattle.std.proofs.Common.{sym, ◌∙◌, arith, mul-le-mul_left, mul-suc, add_assoc, get_or-take, get_or-drop, eq-eqb}
+use mathlib.Core.List.{List, [], ◌∷◌, map}
 use Rattle.std.proofs.lemmas.List.{length-map}
 use Rattle.model.specs.Lists.{all, sum, tabulate}
-use Rattle.model.specs.Bytes.{byte_at, word_at, word_bytes, part}
-use Rattle.model.specs.Types.{SourceNode, PairLink, ContainerPair, Diagnostic, LexOutput, RegionOutput}
-use Rattle.model.specs.Tape.{Operand, Operand.byte, Operand.word, operand_size, value_at, Codec, record_size, operands_at, record_at, record_bytes, operand_bytes, records_at, records_bytes, node_codec, pair_codec, container_codec, diagnostic_codec}
+use Rattle.model.specs.Bytes.{byte_at, word_at, part}
+use Rattle.model.specs.Types.{SourceNode, LexOutput, RegionOutput}
+use Rattle.model.specs.Tape.{Operand, Operand.byte, Operand.word, operand_size, value_at, Codec, record_size, operands_at, record_at, records_at}
 use Rattle.model.specs.Store.{store_of}
 use Rattle.model.specs.Tree.{ShownNode, shown_node, shown_nodes}
 use Rattle.model.specs.Graft.{NewLayer, layered, graft_node_ref, graft_node_refs}
 use Rattle.model.specs.Merge.{MergeWindow, spliced, node_located, grafted}
-use Rattle.laws.specs.Lists.{both, join}
+use Rattle.laws.specs.Lists.{join}
 use Rattle.laws.specs.Located.{spliced_all}
-use Rattle.graft.specs.Widths.{six_words_lem, node_six}
+use Rattle.laws.specs.Parts.{six_words}
+use Rattle.graft.specs.Widths.{node_six}
 use Rattle.graft.specs.NodeItems.{length_refs}
 
--- ---- widths
-
-pair_width : (x : PairLink) → length (record_bytes pair_codec x) ≡ 18
-unfolding record_bytes operand_bytes pair_codec word_bytes
-pair_width x = refl
-
-pub pairs_width : (xs : List PairLink) → length (records_bytes pair_codec xs) ≡ 18 * length xs
-unfolding records_bytes flatten
-pairs_width [] = refl
-pairs_width (x ∷ xs) = length-append (record_bytes pair_codec x) (records_bytes pair_codec xs) ∙ (let a = pair_width x in let b = pairs_width xs in omega (arith, a, b))
-
-container_width : (x : ContainerPair) → length (record_bytes container_codec x) ≡ 13
-unfolding record_bytes operand_bytes container_codec word_bytes
-container_width x = refl
-
-pub containers_width : (xs : List ContainerPair) → length (records_bytes container_codec xs) ≡ 13 * length xs
-unfolding records_bytes flatten
-containers_width [] = refl
-containers_width (x ∷ xs) = length-append (record_bytes container_codec x) (records_bytes container_codec xs) ∙ (let a = container_width x in let b = containers_width xs in omega (arith, a, b))
-
-diagnostic_width : (x : Diagnostic) → length (record_bytes diagnostic_codec x) ≡ 18
-unfolding record_bytes operand_bytes diagnostic_codec word_bytes
-diagnostic_width x = refl
-
-pub diagnostics_width : (xs : List Diagnostic) → length (records_bytes diagnostic_codec xs) ≡ 18 * length xs
-unfolding records_bytes flatten
-diagnostics_width [] = refl
-diagnostics_width (x ∷ xs) = length-append (record_bytes diagnostic_codec x) (records_bytes diagnostic_codec xs) ∙ (let a = diagnostic_width x in let b = diagnostics_width xs in omega (arith, a, b))
-
--- ---- nodes
-
-unfoldable pub six_words : SourceNode → Bool
-six_words n = eqb (length n.body.words) 6
-
-node_width : (n : SourceNode) → six_words n ≡ true → length (record_bytes node_codec n) ≡ 49
-unfolding six_words record_bytes operand_bytes node_codec word_bytes
-node_width n w =
-    six_words_lem n.body.words (eqb-true (length n.body.words) 6 w)
-    (λ ws. length (record_bytes node_codec (record {
-      class = n.class;
-      inline = n.inline;
-      source_span = n.source_span;
-      normalized_offset = n.normalized_offset;
-      body = record { kind = n.body.kind; tag = n.body.tag; plain1 = n.body.plain1; plain2 = n.body.plain2; words = ws };
-    })))
-    49 (λ a b d e f g. refl)
-
-pub nodes_width : (ns : List SourceNode) → all six_words ns ≡ true → length (records_bytes node_codec ns) ≡ 49 * length ns
-unfolding records_bytes flatten
-nodes_width [] h = refl
-nodes_width (n ∷ ns) h =
-    let s = both (six_words n) (all six_words ns) h in
-    length-append (record_bytes node_codec n) (records_bytes node_codec ns) ∙ (let a = node_width n s.0 in let b = nodes_width ns s.1 in omega (arith, a, b))
-
--- nodes that were read
-tabulate_six : (n : ℕ) (f : ℕ → SourceNode) → ((i : ℕ) → six_words (f i) ≡ true) → all six_words (tabulate n f) ≡ true
-tabulate_six zero f h = refl
-tabulate_six (suc n) f h = join (six_words (f zero)) _ (h zero) (tabulate_six n (λ i. f (suc i)) (λ i. h (suc i)))
-
-read_six : (t : List ℕ) (p : ℕ) → six_words (record_at node_codec t p) ≡ true
-unfolding six_words record_at node_codec operands_at
-read_six t p = refl
-
-pub nodes_six : (t : List ℕ) (p n : ℕ) → all six_words (records_at node_codec t p n) ≡ true
-unfolding records_at
-nodes_six t p n = tabulate_six n (λ i. record_at node_codec t (p + record_size node_codec * i)) (λ i. read_six t (p + record_size node_codec * i))
-
--- nodes that were grafted
+-- ---- nodes that were grafted
 refs_six : (ns : List ShownNode) (f : NewLayer) → all six_words (graft_node_refs ns f).0 ≡ true
 unfolding graft_node_refs graft_node_ref six_words
 refs_six [] f = refl

@@ -4,16 +4,9 @@ use Rattle.std.proofs.Common.{ap, ◌∙◌, arith, append_assoc, length-append,
 use Rattle.std.proofs.Math.Nat.{sub-zero}
 use Rattle.model.specs.Bytes.{word_bytes}
 use Rattle.laws.specs.Words.{word_length}
+use Rattle.laws.specs.Parts.{head_bytes}
 use Rattle.laws.specs.Splice.{splice, splice_length}
 use Rattle.wire.specs.Overwrite.{overwrite, Wrote, wrote_next}
-
--- command 1 and the lengths of both texts
-unfoldable pub head_bytes : ℕ → ℕ → List ℕ
-head_bytes text normalized = (1 ∷ []) ++ word_bytes text ++ word_bytes normalized
-
-pub head_length : (n m : ℕ) → length (head_bytes n m) ≡ 9
-unfolding head_bytes
-head_length n m = let a = word_length n in let b = word_length m in let c = length-append ((1 ∷ []) ++ word_bytes n) (word_bytes m) in let d = length-append (1 ∷ []) (word_bytes n) in omega (arith, a, b, c, d)
 
 pub spliced_length : (start end : ℕ) (new old : List ℕ) → start ≤ end → end ≤ length old → length (splice start end new old) ≡ start + length new + (length old - end)
 spliced_length start end new old h k = let n = splice_length start end new old h k in omega (arith, n, h, k)

@@ -6,7 +6,7 @@ ghost use Rattle.std.specs.Prelude.{◌≡◌, ◌++◌, ◌+◌, ◌-◌, ◌�
 ghost use Rattle.model.specs.Bytes.{part};
 ghost use Rattle.wire.specs.Overwrite.{overwrite};
 ghost use Rattle.merged_texts.specs.Replaced.{replaced};
-ghost use Rattle.merged_texts.specs.Writing.{head_bytes};
+ghost use Rattle.laws.specs.Parts.{head_bytes};
 
 mod replaced;
 

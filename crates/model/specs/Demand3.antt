@@ -50,7 +50,9 @@ shown_segments b start len =
     map (show_segments (λ inner. show_body max_level st inner)) (lookup_segments b start len)
 
 -- Section 7. Meant is each string number below the first book's count and each range of its contents or segments under
--- section 3, used by a node or not: it shows in the later book what it showed in the first.
+-- section 3, used by a node or not: it shows in the later book what it showed in the first. Wish 6: this runs from one flattening to
+-- the next. A flat book is an accepted book (`Flattened`), so `Demand3` holds from it on; its ids are new ones, and references given out before
+-- end with it (`ids_end` in Traps).
 pub record KeptReferences (first later : LexOutput) : Type 0 where
   pub strings : (id : ℕ) → id < sum (string_counts first.layers) → lookup_str later id ≡ lookup_str first id
   pub contents : (start len : ℕ) → range_ok (content_counts first.layers) start len ≡ true → shown_contents later start len ≡ shown_contents first start len

@@ -19,6 +19,7 @@ pub mod Ceiling
 pub mod Lookup
 pub mod Runs
 pub mod Demand3
+pub mod Flatten
 pub mod Desk
 pub mod Computed
 pub mod Examples

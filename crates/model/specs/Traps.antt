@@ -1,6 +1,6 @@
 -- The traps of document 01, and the sentences that two readers could take differently (docs/DECISIONS.md): each a theorem by
 -- computation that tells the right answer from the wrong one. For each there is a must-fail edit of its definition.
-use Rattle.std.specs.Prelude.{◌≡◌, refl, ℕ, suc, true, false, List, [], ◌∷◌, ◌++◌, map, length, set, replicate}
+use Rattle.std.specs.Prelude.{◌≡◌, refl, ℕ, suc, ◌*◌, true, false, List, [], ◌∷◌, ◌++◌, map, length, set, replicate}
 use Rattle.std.proofs.Math.Option.{Option, none, some}
 use Rattle.model.specs.Lists.{tabulate, ascii}
 use Rattle.model.specs.Limits.{no_string}
@@ -17,6 +17,8 @@ use Rattle.model.specs.Merge.{Stored, Room, IncrementalOutput, stored_book, graf
 use Rattle.model.specs.Estimate.{Estimate, is_over, price_of, estimate}
 use Rattle.model.specs.Ceiling.{distinct_short, reading_calls}
 use Rattle.model.specs.Desk.{zero_ledger, merge_for_desk, ledger_after, ledger_behind, charges, rereads, own_rereads, DeskCall, desk_of_call, desk_answer}
+use Rattle.model.specs.Flatten.{flatten_book}
+use Rattle.model.specs.Lookup.{lookup_str}
 use Rattle.model.specs.Runs.{program, program_room}
 use Rattle.model.specs.Examples.{marked_book, plain_book, edit, region_in, region, ruby_reading, input}
 use Rattle.model.specs.Computed.{computed}
@@ -542,3 +544,96 @@ pub fourteen_in_its_place :
     × (merged_diagnostics full_marked insert kaeriten ≡ refused 14)
 unfolding computed
 fourteen_in_its_place = (refl, refl, refl)
+
+-- ---- wish 6
+
+-- a book, flat, read back from its tape
+abbrev flat : LexOutput → Checked LexOutput
+flat book = do
+  made ← flatten_book (stored_book book) program_room
+  check_book made.tape made.bytes
+
+abbrev flat_number : LexOutput → Room → ℕ
+flat_number book room = number_of (flatten_book (stored_book book) room)
+
+abbrev kaeriten_at : ℕ → ℕ → SourceNode
+kaeriten_at place id = record { class = 0; inline = 0; source_span = span place (suc place); normalized_offset = 3 * place; body = body 12 0 (words id 0) }
+
+-- "abc" as three Kaeriten with these marks
+abbrev three_marks : List Layer → ℕ → ℕ → ℕ → LexOutput
+three_marks layers a b c = record {
+  sanitized = ascii "abc";
+  normalized = 0xee ∷ 0x80 ∷ 0x81 ∷ 0xee ∷ 0x80 ∷ 0x81 ∷ 0xee ∷ 0x80 ∷ 0x81 ∷ [];
+  layers = layers;
+  source_nodes = kaeriten_at 0 a ∷ kaeriten_at 1 b ∷ kaeriten_at 2 c ∷ [];
+  pairs = [];
+  container_pairs = [];
+  diagnostics = [];
+}
+
+-- the first's mark, "z", in the upper layer, the second's, "x", in the lower, the third's, "x" again, in the upper
+abbrev two_layers_named : LexOutput
+two_layers_named = three_marks (layer_of (ascii "y" ∷ ascii "x" ∷ []) (plain_content 0 ∷ []) [] ∷ layer_of (ascii "z" ∷ ascii "x" ∷ []) [] [] ∷ []) 2 1 3
+
+-- Wish 6. Strings stand in the order in which the nodes name them; what no node names is gone, of a book of one layer too; equal strings of at
+-- most 64 bytes are one.
+pub nothing_unreachable :
+    (flat two_layers_named ≡ accepted (three_marks (layer_of (ascii "z" ∷ ascii "x" ∷ []) [] [] ∷ []) 0 1 1))
+    × (flat kaeriten ≡ accepted (one_node (layer_of (ascii "x" ∷ []) [] [] ∷ []) (body 12 0 (words 0 0))))
+unfolding computed
+nothing_unreachable = (refl, refl)
+
+-- a string of n letters, named with another one between
+abbrev named_twice : ℕ → LexOutput
+named_twice n = three_marks (layer_of (replicate n 97 ∷ ascii "x" ∷ []) [] [] ∷ []) 0 1 0
+
+-- Wish 6. A string of more than 64 bytes is interned anew each time it is named, but right behind itself.
+pub long_string_stands_twice :
+    (flat (named_twice 64) ≡ accepted (named_twice 64))
+    × (flat (named_twice 65) ≡ accepted (three_marks (layer_of (replicate 65 97 ∷ ascii "x" ∷ replicate 65 97 ∷ []) [] [] ∷ []) 0 1 2))
+unfolding computed
+long_string_stands_twice = (refl, refl)
+
+-- a Ruby whose reading begins at this content; its base is the first
+abbrev one_ruby : ℕ → List Content → LexOutput
+one_ruby second cs = one_node (layer_of (ascii "x" ∷ []) cs [] ∷ []) (body 1 0 (0 ∷ 1 ∷ second ∷ 1 ∷ 0 ∷ 0 ∷ []))
+
+-- Wish 6. Trees are grafted and not pools: a run that two fields share stands twice.
+pub shared_run_stands_twice : flat (one_ruby 0 (plain_content 0 ∷ [])) ≡ accepted (one_ruby 1 (plain_content 0 ∷ plain_content 0 ∷ []))
+unfolding computed
+shared_run_stands_twice = refl
+
+-- Wish 6. References given out before end with the flattening: of the numbers 0 to 3 one shows another string, and two show none.
+pub ids_end :
+    let shows : LexOutput → List (Option (List ℕ)) = λ b. map (lookup_str b) (0 ∷ 1 ∷ 2 ∷ 3 ∷ []) in
+    (shows two_layers_named ≡ some (ascii "y") ∷ some (ascii "x") ∷ some (ascii "z") ∷ some (ascii "x") ∷ [])
+    × (flat two_layers_named >>= (λ b. accepted (shows b)) ≡ accepted (some (ascii "z") ∷ some (ascii "x") ∷ none ∷ none ∷ []))
+unfolding computed
+ids_end = (refl, refl)
+
+-- Wish 6. A book without nodes keeps one empty layer, and its diagnostics the order in which they stood.
+pub one_empty_layer :
+    flat (marked_book (ascii "aa\n\nbb") (mark 4 2 ∷ mark 0 1 ∷ [])) ≡ accepted (marked_book (ascii "aa\n\nbb") (mark 4 2 ∷ mark 0 1 ∷ []))
+    × (flat (layers_with (ascii "aa\n\nbb\n\ncc") (layer_of (ascii "old" ∷ []) [] [] ∷ layer_of (ascii "er" ∷ []) [] [] ∷ [])) ≡ accepted (three_with [] [] []))
+unfolding computed
+one_empty_layer = (refl, refl)
+
+-- Wish 6. 1 to 7 before 18; 18 where a buffer is one byte short, and under 16384 work words, also without nodes. The limits, too long to compute
+-- here, are those of a merged book, by the same `result_ok`.
+pub flat_refused :
+    let whole : LexOutput = plain_book (ascii "aa") in
+    (number_of (flatten_book no_book (record { tape_bytes = 0; text_bytes = 0; work_words = 0 })) ≡ 1)
+    × (flat_number whole (record { tape_bytes = 11; text_bytes = 4; work_words = 16384 }) ≡ 0)
+    × (flat_number whole (record { tape_bytes = 10; text_bytes = 4; work_words = 16384 }) ≡ 18)
+    × (flat_number whole (record { tape_bytes = 11; text_bytes = 3; work_words = 16384 }) ≡ 18)
+    × (flat_number whole (record { tape_bytes = 11; text_bytes = 4; work_words = 16383 }) ≡ 18)
+unfolding computed
+flat_refused = (refl, refl, refl, refl, refl)
+
+-- Wish 6. A reading with nodes that 32 layers refused is accepted once the book is flat.
+pub seventeen_ends :
+    let thirty_two : LexOutput = layers_with (ascii "aa\n\nbb\n\ncc") (layers_of 32) in
+    let merged_into : Stored → Checked IncrementalOutput = λ s. merge s (edit 4 5) (stored_book ruby_reading) program_room in
+    (number_of (merged_into (stored_book thirty_two)) ≡ 17) × (number_of (flatten_book (stored_book thirty_two) program_room >>= merged_into) ≡ 0)
+unfolding computed
+seventeen_ends = (refl, refl)

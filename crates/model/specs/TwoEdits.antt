@@ -141,7 +141,8 @@ final = record {
   } ∷ shown_kaeriten 9 11 10 (ascii "x") ∷ shown_kaeriten 14 15 17 (ascii "d") ∷ [];
   pairs = pair 0 1 ∷ pair 4 5 ∷ [];
   container_pairs = container 0 3 ∷ container 4 8 ∷ container 10 15 ∷ container 16 18 ∷ [];
-  diagnostics = diagnostic 0 1 3 ∷ diagnostic 7 8 5 ∷ diagnostic 7 8 6 ∷ diagnostic 9 9 10 ∷ diagnostic 9 9 9 ∷ diagnostic 9 9 11 ∷ diagnostic 9 10 7 ∷ diagnostic 9 10 8 ∷ diagnostic 14 15 1 ∷ diagnostic 14 15 2 ∷ [];
+  diagnostics =
+      diagnostic 0 1 3 ∷ diagnostic 7 8 5 ∷ diagnostic 7 8 6 ∷ diagnostic 9 9 10 ∷ diagnostic 9 9 9 ∷ diagnostic 9 9 11 ∷ diagnostic 9 10 7 ∷ diagnostic 9 10 8 ∷ diagnostic 14 15 1 ∷ diagnostic 14 15 2 ∷ [];
 }
 
 abbrev told : Span → Span → Told

@@ -25,7 +25,7 @@ cleared out n h e =
 -- ---- what was written
 
 -- what begins a list is no longer than it
-head_short : (n : ℕ) (l b : List ℕ) → length b ≡ n → take n l ≡ b → n ≤ length l
+pub head_short : (n : ℕ) (l b : List ℕ) → length b ≡ n → take n l ≡ b → n ≤ length l
 head_short n l b e f = let h = ap length f in let k = length-take n l in omega (arith, e, h, k)
 
 module _ {out text work out₁ text₁ work₁ : List ℕ} {r : Checked Output} where

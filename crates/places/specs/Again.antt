@@ -11,7 +11,7 @@ use Rattle.model.specs.Bytes.{byte_at}
 use Rattle.model.specs.Tape.{LayerPlaces, layer_places, layers_from, layers_end, places, framed, bytes_needed, book_at, if_shaped, parse, node_codec, pair_codec, container_codec, diagnostic_codec}
 use Rattle.laws.specs.Lists.{both}
 use Rattle.wire.specs.Loops.{by_bool}
-use Rattle.laws.specs.RoundTrip.{layer_end}
+use Rattle.laws.specs.RoundTrip.{layer_end, layers_rise}
 use Rattle.places.specs.Found.{layer_runs, strings_in, contents_in, segments_in, two_inside, holds, found, places_of}
 use Rattle.places.specs.declared.LayerRuns.{LayerRuns}
 use Rattle.places.specs.declared.Places.{Places}
@@ -59,16 +59,6 @@ ends_left zero [] p q x xs e = absurd (let z = ap length e in omega (arith, z))
 ends_left zero (y ∷ ys) p q x xs e = refl
 ends_left (suc i) [] p q x xs e = absurd (let z = ap length e in omega (arith, z))
 ends_left (suc i) (y ∷ ys) p q x xs e = ends_left i ys y.end_at q x xs e
-
-layers_rise : (t : List ℕ) (n p : ℕ) → p ≤ layers_end p (layers_from n t p)
-unfolding layers_end layers_from
-layers_rise t zero p = omega arith
-layers_rise t (suc n) p = go (layers_rise t n (layer_places t p).end_at) (eqb (byte_at t p) 2)
-  where
-    go : (layer_places t p).end_at ≤ layers_end (layer_places t p).end_at (layers_from n t (layer_places t p).end_at)
-        → (x : Bool) → p ≤ layers_end p (cond x (layer_places t p ∷ layers_from n t (layer_places t p).end_at) [])
-    go m true = let e = layer_end t p in omega (arith, e, m)
-    go m false = omega arith
 
 -- ---- a walk
 

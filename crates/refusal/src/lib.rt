@@ -113,10 +113,10 @@ impl fmt::Display for Refusal {
                 "the passage begins or ends inside a character of the normalized text: the normalized text is not the images of the nodes"
             }
             Refusal::LayersFull => {
-                "the book has 32 layers already and the reading would add one: parse the whole text, which gives a book of one layer"
+                "the book has 32 layers already and the reading would add one: flatten the book and merge again, or parse the whole text; either gives a book of one layer with new ids and ranges"
             }
             Refusal::NoRoom => {
-                "the result does not fit: a result buffer is too short, fewer than 16384 work words are lent, the merged book passes a limit, or its new layer has more than 3583 strings"
+                "the result does not fit: a result buffer is too short, fewer than 16384 work words are lent, the merged or flat book passes a limit, or its new layer has more than 3583 strings"
             }
             Refusal::DeskOrLedger => {
                 "there is no such desk, or the ledger has another length: desks are 0 to 63, and a ledger has exactly 64 totals"

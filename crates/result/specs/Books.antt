@@ -13,6 +13,7 @@ use Rattle.laws.specs.Lists.{same_eq}
 use Rattle.laws.specs.Checks.{Chosen, chosen_facts, LimitFacts, limit_facts}
 use Rattle.laws.specs.Fits.{fits}
 use Rattle.laws.specs.ReadFits.{read_fits_lem}
+use Rattle.laws.specs.Parts.{strings_bytes}
 use Rattle.laws.specs.Nodes.{normal_inside}
 use Rattle.laws.specs.Splice.{splice}
 use Rattle.commute.specs.Merged.{Fit, normal_region_rises}
@@ -21,7 +22,7 @@ use Rattle.places.specs.declared.Places.{Places}
 use Rattle.store.specs.declared.Store.{Store}
 use Rattle.store.specs.Lengths.{BookLengths, book_lengths}
 use Rattle.fitting.specs.Books.{Books, book_in, well_formed_lem}
-use Rattle.result.specs.Parts.{old_string_bytes, new_string_bytes, merged_strings}
+use Rattle.result.specs.Parts.{new_string_bytes, merged_strings}
 use Rattle.merged_texts.specs.Writing.{spliced_length}
 
 -- the merge of two books
@@ -127,9 +128,9 @@ module _ {t d : List ℕ} {p : Places} {st : Store} {e : Edit} {w : MergeWindow}
 
   -- ---- the bytes
 
-  pub new_bytes : bytes_of new ≡ new.sanitized ++ new.normalized ++ old_string_bytes old ++ new_string_bytes (is_empty read.source_nodes) (grafted old read).1
+  pub new_bytes : bytes_of new ≡ new.sanitized ++ new.normalized ++ strings_bytes old ++ new_string_bytes (is_empty read.source_nodes) (grafted old read).1
   unfolding bytes_of merged_book
   new_bytes =
       ap (λ (l : List ℕ). new.sanitized ++ (new.normalized ++ l)) (merged_strings old read (grafted old read).1)
       ∙ sym (append_assoc new.sanitized new.normalized _)
-      ∙ sym (append_assoc (new.sanitized ++ new.normalized) (old_string_bytes old) (new_string_bytes (is_empty read.source_nodes) (grafted old read).1))
+      ∙ sym (append_assoc (new.sanitized ++ new.normalized) (strings_bytes old) (new_string_bytes (is_empty read.source_nodes) (grafted old read).1))

@@ -20,7 +20,7 @@ use Rattle.merged_lists.specs.declared.Lengths.{Lengths}
 use Rattle.result.specs.declared.Graft.{Graft}
 use Rattle.output.specs.declared.IncrementalOutput.{IncrementalOutput as Output}
 use Rattle.output.specs.Answer.{output_by, Written}
-use Rattle.result.specs.Checked.{ResultFacts}
+use Rattle.laws.specs.Result.{ResultFacts}
 use Rattle.result.specs.Parts.{old_layers_length}
 use Rattle.fitting.specs.Books.{Books, book_in}
 use Rattle.result.specs.Books.{merge_of, lengths_read, limits_old}

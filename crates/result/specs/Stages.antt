@@ -18,6 +18,7 @@ use Rattle.model.specs.Region.{Edit}
 use Rattle.model.specs.Merge.{IncrementalOutput, MergeWindow, grafted, merged_book}
 use Rattle.laws.specs.Checks.{refused_not, same_accepted}
 use Rattle.laws.specs.Splice.{splice}
+use Rattle.laws.specs.Parts.{head_bytes, head_length, layers_bytes, strings_bytes}
 use Rattle.wire.specs.Overwrite.{overwrite, length_overwrite, overwrite_next, take_overwrite}
 use Rattle.stats.specs.Counts.{stats_of}
 use Rattle.stats.specs.declared.InternStats.{InternStats as Counters}
@@ -30,8 +31,8 @@ use Rattle.merged_lists.specs.declared.Lengths.{Lengths}
 use Rattle.result.specs.declared.Graft.{Graft}
 use Rattle.output.specs.declared.IncrementalOutput.{IncrementalOutput as Output}
 use Rattle.output.specs.Answer.{counters_of, output_by, output_of, output_value, Written}
-use Rattle.merged_texts.specs.Writing.{head_bytes, head_length, spliced_length}
-use Rattle.result.specs.Parts.{old_layer_bytes, old_string_bytes, new_layer_bytes, new_string_bytes, old_layers, old_strings_lem, old_layers_length}
+use Rattle.merged_texts.specs.Writing.{spliced_length}
+use Rattle.result.specs.Parts.{new_layer_bytes, new_string_bytes, old_layers, old_strings_lem, old_layers_length}
 use Rattle.fitting.specs.Books.{Books, book_in}
 use Rattle.result.specs.Books.{merge_of, lengths_read, new_text, new_normalized, new_bytes}
 use Rattle.merged_lists.specs.Sizes.{lengths_of}
@@ -86,7 +87,7 @@ texts_asked p q start end replacement from to d rd out h a b c =
 
 abbrev pub up_to : LexOutput → Edit → RegionOutput → MergeWindow → List ℕ
 up_to old e read w =
-    head_bytes (length (merge_of old e read w).sanitized) (length (merge_of old e read w).normalized) ++ old_layer_bytes old ++ new_layer_bytes (is_empty read.source_nodes) (grafted old read).1
+    head_bytes (length (merge_of old e read w).sanitized) (length (merge_of old e read w).normalized) ++ layers_bytes old ++ new_layer_bytes (is_empty read.source_nodes) (grafted old read).1
 
 pub record StoreMade (old : LexOutput) (e : Edit) (read : RegionOutput) (w : MergeWindow) (out out' text' : List ℕ) (at base : ℕ) (r : Graft) : Type 0 where
   pub wrote : out' ≡ overwrite out 0 (up_to old e read w ++ records_bytes node_codec (grafted old read).0)
@@ -113,7 +114,7 @@ module _ {t d : List ℕ} {p : Places} {st : Store} {e : Edit} {w : MergeWindow}
   abbrev none : Bool
   none = is_empty read.source_nodes
 
-  pub texts_are : texts_of p q e.start e.end e.replacement w.normalized.start w.normalized.end d rd ≡ new.sanitized ++ new.normalized ++ old_string_bytes old
+  pub texts_are : texts_of p q e.start e.end e.replacement w.normalized.start w.normalized.end d rd ≡ new.sanitized ++ new.normalized ++ strings_bytes old
   unfolding book_at found merged_book
   texts_are =
       ap₂ (λ (i j : List ℕ). i ++ j)
@@ -150,15 +151,15 @@ module _ {t d : List ℕ} {p : Places} {st : Store} {e : Edit} {w : MergeWindow}
         let o = st.totals in
         let at = p.nodes.at in
         let hd = head_bytes (length new.sanitized) (length new.normalized) in
-        let xs = hd ++ old_layer_bytes old in
+        let xs = hd ++ layers_bytes old in
         let ns = records_bytes node_codec g.0 in
         let nl = new_layer_bytes none g.1 in
         let c' : GraftTold out₁ text₁ out₂ text₂ at l.base o none r g = subst (λ (x : With (List SourceNode)). GraftTold out₁ text₁ out₂ text₂ at l.base o none r x) (grafted_above rt rd old (above b)) c in
-        let ts = new.sanitized ++ new.normalized ++ old_string_bytes old in
+        let ts = new.sanitized ++ new.normalized ++ strings_bytes old in
         let v₁ : text₁ ≡ overwrite text 0 ts = w₁ ∙ ap (overwrite text 0) texts_are in
         let v₂ : out₁ ≡ overwrite out 0 xs
         = w₂ ∙ ap (overwrite out 0) (ap₂ (λ (i j : List ℕ). i ++ j) (ap₂ head_bytes (text_is b sizes) (normalized_is b sizes)) (old_layers b.bytes b.book b.old_places)) in
-        let n₁ : length xs ≡ at = length-append hd (old_layer_bytes old) ∙ (let i = head_length (length new.sanitized) (length new.normalized) in let j = old_layers_length b.bytes b.book b.old_places in omega (arith, i, j)) in
+        let n₁ : length xs ≡ at = length-append hd (layers_bytes old) ∙ (let i = head_length (length new.sanitized) (length new.normalized) in let j = old_layers_length b.bytes b.book b.old_places in omega (arith, i, j)) in
         let m₁ : length out₁ ≡ length out = ap length v₂ ∙ length_overwrite out 0 xs (omega (arith, n₁, h)) in
         let m₂ : length text₁ ≡ length text = ap length v₁ ∙ length_overwrite text 0 ts (omega (arith, base_is b sizes, k)) in
         let ok : is_some r ≡ graft_ok none (length out) (length text) at l.base o g = c'.ok ∙ ap₂ (λ (i j : ℕ). graft_ok none i j at l.base o g) m₁ m₂ in

@@ -18,9 +18,11 @@ use Rattle.model.specs.Tape.{records_at, records_bytes, node_codec, pair_codec, 
 use Rattle.model.specs.Graft.{layered, layer_of, With, graft_node_refs}
 use Rattle.model.specs.Region.{Edit}
 use Rattle.model.specs.Merge.{Room, MergeWindow, window_of, spliced, node_located, pair_located, container_located, diagnostic_located, grafted, merged_book, stored_book, answer, result_ok, result_checked}
+use Rattle.laws.specs.Result.{ResultFacts, result_facts, result_ok_lem}
 use Rattle.laws.specs.Checks.{merge_facts, merged_of}
 use Rattle.laws.specs.Fits.{record_fits}
 use Rattle.laws.specs.WriteRead.{book_fits}
+use Rattle.laws.specs.Parts.{six_words, nodes_width, nodes_six, head_bytes, head_length, layers_bytes, strings_bytes, list_bytes, tape_parts, list_length}
 use Rattle.laws.specs.Sort.{all_sort_is}
 use Rattle.laws.specs.Records.{node_lawful}
 use Rattle.commute.specs.Step.{Step, limits}
@@ -39,10 +41,9 @@ use Rattle.layer.specs.Layered.{Above, layer_records, layer_fits_lem, layer_ok_l
 use Rattle.wire.specs.Apart.{overwrite_covered}
 use Rattle.merged_lists.specs.declared.Kept.{Kept}
 use Rattle.merged_lists.specs.declared.Lengths.{Lengths}
-use Rattle.result.specs.Checked.{result_cond, merge_passed, ResultFacts, result_facts, result_ok_lem}
-use Rattle.merged_texts.specs.Writing.{head_bytes, head_length}
-use Rattle.result.specs.Parts.{old_layer_bytes, old_string_bytes, new_layer_bytes, new_string_bytes, if_layer, list_bytes, tape_parts, list_length, merged_layers_lem, merged_count, merged_number, old_layers_length, old_strings_lem}
-use Rattle.merged_lists.specs.Widths.{six_words, nodes_width, nodes_six, grafted_six, length_grafted, spliced_six}
+use Rattle.result.specs.Checked.{result_cond, merge_passed}
+use Rattle.result.specs.Parts.{new_layer_bytes, new_string_bytes, if_layer, merged_layers_lem, merged_count, merged_number, old_layers_length, old_strings_lem}
+use Rattle.merged_lists.specs.Widths.{grafted_six, length_grafted, spliced_six}
 use Rattle.fitting.specs.Books.{Books, book_in}
 use Rattle.result.specs.Books.{merge_of, chosen, begun, old_fits_lem, reading_fits_lem, lengths_old, lengths_read, limits_old, limits_read, text_length_lem, normalized_length_lem, new_bytes}
 use Rattle.merged_lists.specs.Sizes.{sides_of, kept_of, total_of, lengths_of, Small, lists_end, RoomFor, few_kept}
@@ -118,23 +119,23 @@ module _ {t d : List ℕ} {p : Places} {st : Store} {e : Edit} {w : MergeWindow}
 
   -- head and layers
   abbrev pub up_to : List ℕ
-  up_to = head_bytes (length new.sanitized) (length new.normalized) ++ old_layer_bytes old ++ new_layer_bytes none g.1
+  up_to = head_bytes (length new.sanitized) (length new.normalized) ++ layers_bytes old ++ new_layer_bytes none g.1
 
   pub new_tape : tape_of new ≡ up_to ++ list_bytes new
   unfolding merged_book
   new_tape =
       let h = head_bytes (length new.sanitized) (length new.normalized) in
       tape_parts new ∙ ap (λ (l : List ℕ). h ++ (l ++ list_bytes new)) (merged_layers_lem old read g.1)
-      ∙ sym (append_assoc h (old_layer_bytes old ++ new_layer_bytes none g.1) (list_bytes new))
-      ∙ ap (λ (l : List ℕ). l ++ list_bytes new) (sym (append_assoc h (old_layer_bytes old) (new_layer_bytes none g.1)))
+      ∙ sym (append_assoc h (layers_bytes old ++ new_layer_bytes none g.1) (list_bytes new))
+      ∙ ap (λ (l : List ℕ). l ++ list_bytes new) (sym (append_assoc h (layers_bytes old) (new_layer_bytes none g.1)))
 
   pub up_to_length : length up_to ≡ p.nodes.at + length (new_layer_bytes none g.1)
   up_to_length =
       let h = head_bytes (length new.sanitized) (length new.normalized) in
       let n₀ = head_length (length new.sanitized) (length new.normalized) in
       let n₁ = old_layers_length b.bytes b.book b.old_places in
-      let n₂ = length-append h (old_layer_bytes old) in
-      let n₃ = length-append (h ++ old_layer_bytes old) (new_layer_bytes none g.1) in
+      let n₂ = length-append h (layers_bytes old) in
+      let n₃ = length-append (h ++ layers_bytes old) (new_layer_bytes none g.1) in
       omega (arith, n₀, n₁, n₂, n₃)
 
   module _ {l : Lengths} (sizes : l ≡ lengths_of p q e.start e.end (length e.replacement) w.normalized.start w.normalized.end (length d)) where
@@ -144,15 +145,15 @@ module _ {t d : List ℕ} {p : Places} {st : Store} {e : Edit} {w : MergeWindow}
     pub normalized_is : l.normalized ≡ length new.normalized
     normalized_is = ap (λ (x : Lengths). x.normalized) sizes ∙ sym (normalized_length_lem b)
 
-    pub base_is : l.base ≡ length (new.sanitized ++ new.normalized ++ old_string_bytes old)
+    pub base_is : l.base ≡ length (new.sanitized ++ new.normalized ++ strings_bytes old)
     base_is =
         let n₁ = length-append new.sanitized new.normalized in
-        let n₂ = length-append (new.sanitized ++ new.normalized) (old_string_bytes old) in
+        let n₂ = length-append (new.sanitized ++ new.normalized) (strings_bytes old) in
         let n₃ = ap length (sym (old_strings_lem b.bytes b.book b.old_places)) ∙ length-drop (p.text + p.normalized) d in
         ap (λ (x : Lengths). x.base) sizes ∙ omega (arith, n₁, n₂, n₃, text_length_lem b, normalized_length_lem b)
 
     pub bytes_length : length (bytes_of new) ≡ l.base + length (new_string_bytes none g.1)
-    bytes_length = ap length (new_bytes b) ∙ length-append (new.sanitized ++ new.normalized ++ old_string_bytes old) (new_string_bytes none g.1) ∙ ap (λ (n : ℕ). n + length (new_string_bytes none g.1)) (sym base_is)
+    bytes_length = ap length (new_bytes b) ∙ length-append (new.sanitized ++ new.normalized ++ strings_bytes old) (new_string_bytes none g.1) ∙ ap (λ (n : ℕ). n + length (new_string_bytes none g.1)) (sym base_is)
 
   module _ {k : Kept} (kept : k ≡ kept_of w t p) where
     -- no sum is too large

@@ -18,6 +18,7 @@ use Rattle.model.specs.Store.{store_of, string_counts, content_counts, segment_c
 use Rattle.model.specs.Tape.{Codec, record_size, record_at, records_at, string_codec, content_codec, segment_codec}
 use Rattle.model.specs.Tape.{LayerPlaces, layer_places, layers_from, places, string_lengths, pieces, layer_at, layers_at}
 use Rattle.laws.specs.Lists.{both, either}
+use Rattle.laws.specs.Records.{tabulate_same}
 use Rattle.laws.specs.RoundTrip.{layer_end}
 use Rattle.places.specs.Found.{strings_in, contents_in, segments_in}
 use Rattle.places.specs.Again.{layers_cons, length_counts, nodes_place}
@@ -174,10 +175,6 @@ pub record Spans (counts : List ℕ) (start len k : ℕ) : Type 0 where
   pub inside : k < length counts
   pub low : before counts k ≤ start
   pub high : start + len ≤ before counts (suc k)
-
-tabulate_same : {A : Type 0} (n : ℕ) (f g : ℕ → A) → ((i : ℕ) → f i ≡ g i) → tabulate n f ≡ tabulate n g
-tabulate_same zero f g e = refl
-tabulate_same (suc n) f g e = ap₂ (λ x xs. x ∷ xs) (e zero) (tabulate_same n (λ i. f (suc i)) (λ i. g (suc i)) (λ i. e (suc i)))
 
 part_tabulate : {A : Type 0} (n start len : ℕ) (f : ℕ → A) → start + len ≤ n → take len (drop start (tabulate n f)) ≡ tabulate len (λ (i : ℕ). f (start + i))
 part_tabulate n zero zero f h = refl

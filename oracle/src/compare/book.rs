@@ -196,6 +196,19 @@ impl Book {
     }
 }
 
+/// A tape and its byte buffer.
+#[derive(Clone, Debug, PartialEq)]
+pub struct Stored {
+    pub tape: Vec<u8>,
+    pub bytes: Vec<u8>,
+}
+
+impl Stored {
+    pub fn of(b: &Book) -> Self {
+        Self { tape: b.tape(), bytes: b.bytes() }
+    }
+}
+
 /// What is lent: bytes for the tape, bytes for texts and strings, work words.
 pub type Room = [usize; 3];
 

@@ -68,6 +68,8 @@ pub enum Strings {
     Long,
     /// unlike ones, so many that the table grows
     Many,
+    /// so many, and unlike those of every other layer
+    Fresh,
 }
 
 const CHARS: &[&str] = &["a", "b", "x", " ", "漢", "字", "あ", "é", "𠮷", "《", "》", "\r", "\u{0}"];
@@ -108,6 +110,10 @@ pub fn profiles() -> Vec<Profile> {
     ]
 }
 
+/// Its flat layers come to 3583 strings and over.
+pub const FRESH: Profile =
+    Profile { name: "strings of one layer alone", layers: [1, 2], strings: Strings::Fresh, pools: [3000, 3000, 2], kinds: &[14, 1, 9], plain: 99, passages: [16, 20], nodes: 6, others: [1, 1], graft: 8000, ..MIXED };
+
 pub struct Gen<'a> {
     pub r: Rng,
     pub p: &'a Profile,
@@ -126,7 +132,7 @@ pub fn boundaries(text: &[u8]) -> Vec<usize> {
 }
 
 /// The places behind some bytes: newlines, or the blank lines at which passages may be cut.
-fn behind(text: &[u8], what: &[u8]) -> Vec<usize> {
+pub fn behind(text: &[u8], what: &[u8]) -> Vec<usize> {
     (0..=text.len()).filter(|i| text[..*i].ends_with(what)).collect()
 }
 
@@ -163,6 +169,7 @@ impl Gen<'_> {
             Strings::Colliding => self.r.pick(collide).clone(),
             Strings::Dependent => self.r.pick(&["a", "b", "漢", "a", "", "a"]).as_bytes().to_vec(),
             Strings::Many if !self.r.chance(10) => format!("{:x}", place * 7 % 5000).into_bytes(),
+            Strings::Fresh => format!("{:x}", self.r.next() as u32).into_bytes(),
             Strings::Long => match self.r.below(9) {
                 0 => vec![],
                 1 => vec![self.r.below(128) as u8],
@@ -226,6 +233,7 @@ impl Gen<'_> {
     fn content_range(&mut self, p: &Pools, level: u8) -> [u32; 2] {
         let most = match self.p.strings {
             Strings::Many => 1300,
+            Strings::Fresh => 3000,
             Strings::Colliding | Strings::Long => 6,
             Strings::Dependent => 1,
             _ => 1 + self.r.below(2) * self.r.below(3),

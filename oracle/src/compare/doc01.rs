@@ -1,6 +1,6 @@
 //! The merge once more, written from document 01 and wishes 1 and 5 of document 02, sentence by sentence: numbers 1 to 18 in their order, and the merged
-//! book. The Rust has no answer for 1 to 8 and does not know the wishes, so this is the judge there. It is slow and plain on purpose; UTF-8 is the standard
-//! library's, which follows RFC 3629.
+//! book; and the flattening of wish 6. The Rust has no answer for 1 to 8 and does not know the wishes, so this is the judge there. It is slow and plain on
+//! purpose; UTF-8 is the standard library's, which follows RFC 3629.
 use crate::book::*;
 use std::collections::HashMap;
 
@@ -48,7 +48,7 @@ impl<'a> Reader<'a> {
 }
 
 #[derive(Clone, Copy, PartialEq)]
-enum Form {
+pub enum Form {
     Id,
     Missing,
     Contents,
@@ -57,7 +57,7 @@ enum Form {
 use Form::*;
 
 /// What the words of a body are, in the order in which section 5 goes over them.
-fn fields(b: &Body) -> Vec<(Form, usize)> {
+pub fn fields(b: &Body) -> Vec<(Form, usize)> {
     match b.kind {
         1 | 15 => vec![(Contents, 0), (Contents, 2)],
         2 if b.tag % 4 > 1 => vec![(Contents, 0), (Id, 2)],
@@ -181,7 +181,7 @@ pub fn within_limits(b: &Book) -> bool {
 // ---- 4 and 5: the three pools, each numbered from 0 across the layers
 
 pub struct Pools<'a> {
-    strings: Vec<&'a [u8]>,
+    pub strings: Vec<&'a [u8]>,
     contents: Vec<&'a Content>,
     segments: Vec<&'a Seg>,
     /// of contents and of segments: where each layer ends
@@ -342,6 +342,13 @@ fn region(b: &Book, start: usize, end: usize, new: &[u8]) -> [usize; 2] {
     let first = (1..=start).rev().filter(behind_newline).find(|at| safe_cut(b, *at)).unwrap_or(0);
     let last = (end + 1..=b.text.len()).filter(behind_newline).find(|at| end_cut(b, new, *at)).unwrap_or(b.text.len());
     [first, last]
+}
+
+/// At how many offsets inside a text a passage may begin that can be corrected alone: they are safe, between characters of the normalized text, and no
+/// dependency lies behind them.
+pub fn passages(b: &Book) -> usize {
+    let whole = |at: usize| is_utf8(&b.norm[..normalized(b, at)]);
+    (1..b.text.len()).filter(|at| b.text[at - 1] == b'\n' && safe_cut(b, *at) && whole(*at) && !has_ruby_format_dependency(b, *at)).count()
 }
 
 fn is_ruby(n: &Node) -> bool {
@@ -525,6 +532,15 @@ impl Graft<'_> {
     }
 }
 
+/// The nodes with their bodies grafted, the new layer, the seven counts; `below`: strings, contents, segments of the layers below.
+fn grafted(from: &Book, below: [usize; 3]) -> (Vec<Node>, Layer, [u64; 7]) {
+    let mut g = Graft { from: Pools::of(from), interner: Interner::default(), contents: vec![], segments: vec![], below: below.map(|n| n as u32) };
+    let mut graft = |n: &Node| Node { body: if n.class < 2 { g.body(&n.body) } else { n.body.clone() }, ..n.clone() };
+    let nodes = from.nodes.iter().map(&mut graft).collect();
+    let strings = g.interner.strings.iter().map(|s| s.to_vec()).collect();
+    (nodes, Layer { strings, contents: g.contents, segments: g.segments }, g.interner.counts)
+}
+
 /// How many contents and segments grafting adds, a range counted once: a layer that no pool holds is not made.
 struct Adds<'a, 'b> {
     from: &'a Pools<'b>,
@@ -561,7 +577,7 @@ impl Adds<'_, '_> {
     }
 }
 
-/// Contents and segments that the reading's graft adds.
+/// Contents and segments that the graft of a reading adds, or of a whole book.
 pub fn adds(reading: &Book) -> [u64; 2] {
     let p = Pools::of(reading);
     let mut a = Adds { from: &p, known: HashMap::new() };
@@ -649,15 +665,9 @@ pub fn merge_in_any_room(c: &Case) -> Refused<Answer> {
     if !reading.nodes.is_empty() {
         let more = adds(&reading);
         must(18, (0..2).all(|i| below[i + 1] as u64 + more[i] <= POOL as u64))?;
-        let mut g = Graft { from: Pools::of(&reading), interner: Interner::default(), contents: vec![], segments: vec![], below: below.map(|n| n as u32) };
-        for n in &reading.nodes {
-            let body = if n.class < 2 { g.body(&n.body) } else { n.body.clone() };
-            nodes.push(Node { body, ..n.clone() });
-        }
-        let strings: Vec<Vec<u8>> = g.interner.strings.iter().map(|s| s.to_vec()).collect();
-        must(18, strings.len() <= STRINGS)?;
-        counts = g.interner.counts;
-        layer = Some(Layer { strings, contents: g.contents, segments: g.segments });
+        let (new, fresh, told) = grafted(&reading, below);
+        must(18, fresh.strings.len() <= STRINGS)?;
+        (nodes, layer, counts) = (new, Some(fresh), told);
     }
     let b = spliced(&old, &reading, &nodes, layer, text, region);
     let (tape, bytes) = (b.tape(), b.bytes());
@@ -671,6 +681,33 @@ pub fn in_room(answer: Refused<Answer>, room: Room) -> Refused<Answer> {
     let a = answer?;
     must(18, a.tape.len() <= room[0] && a.bytes.len() <= room[1] && WORK <= room[2])?;
     Ok(a)
+}
+
+// ---- document 02, wish 6
+
+/// Of an accepted flattening: the flat book, and the seven counts of its graft.
+pub struct Flat {
+    pub book: Book,
+    pub counts: [u64; 7],
+}
+
+/// "... the nodes' trees are grafted in order into one fresh layer, nothing unreachable is kept. Texts, spans, lists and trees are equal before and
+/// after .. A book without nodes keeps one empty layer. It is refused by 1 to 7 and 18 under their old conditions." Whatever is lent.
+pub fn flatten_in_any_room(old: &Stored) -> Refused<Flat> {
+    let old = check_book(&old.tape, &old.bytes)?;
+    must(18, adds(&old).iter().all(|n| *n <= POOL as u64))?;
+    let (nodes, layer, counts) = grafted(&old, [0; 3]);
+    must(18, layer.strings.len() <= STRINGS)?;
+    let book = Book { layers: vec![layer], nodes, ..old };
+    must(18, within_limits(&book))?;
+    Ok(Flat { book, counts })
+}
+
+/// 18 also where a result buffer is too short or too few work words are lent.
+pub fn flat_in_room(flat: &Refused<Flat>, room: Room) -> Refused<Stored> {
+    let made = Stored::of(&flat.as_ref().map_err(|n| *n)?.book);
+    must(18, made.tape.len() <= room[0] && made.bytes.len() <= room[1] && WORK <= room[2])?;
+    Ok(made)
 }
 
 /// The program `merge`: its input to its line.

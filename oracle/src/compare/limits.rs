@@ -6,18 +6,18 @@ use oracle::judge::{Answer, judge};
 use oracle::tape;
 
 const CLASS: &str = "limits";
-const TEXT: usize = 16_777_215;
-const POOL: usize = 1_048_575;
-const LIST: usize = 262_143;
+pub const TEXT: usize = 16_777_215;
+pub const POOL: usize = 1_048_575;
+pub const LIST: usize = 262_143;
 
 /// "a", a blank line, then so many letters
-fn long(len: usize) -> Vec<u8> {
+pub fn long(len: usize) -> Vec<u8> {
     let mut text = b"a\n\n".to_vec();
     text.resize(len, b'b');
     text
 }
 
-fn inline(start: u32, end: u32, body: Body) -> Node {
+pub fn inline(start: u32, end: u32, body: Body) -> Node {
     Node { class: 0, inline: 0, start, end, offset: 0, body }
 }
 
@@ -51,7 +51,7 @@ fn rust_accepts(c: &Case) -> bool {
 }
 
 /// A reading of the first passage with one AngleQuote of the first `len` contents.
-fn quote(strings: usize, contents: &[Content], segments: Vec<Seg>, len: u32) -> Book {
+pub fn quote(strings: usize, contents: &[Content], segments: Vec<Seg>, len: u32) -> Book {
     let mut b = Book::plain(b"x\n\n");
     b.layers[0] = Layer { strings: (0..strings).map(|i| format!("{i:x}").into_bytes()).collect(), contents: contents.to_vec(), segments };
     b.nodes = vec![inline(0, 1, Body::new(14, 0, &[0, len]))];
@@ -60,7 +60,7 @@ fn quote(strings: usize, contents: &[Content], segments: Vec<Seg>, len: u32) -> 
 }
 
 /// AngleQuotes one in another, each holding the one below twice: 2 to the power of the levels when grafted.
-fn doubling(levels: u8) -> Book {
+pub fn doubling(levels: u8) -> Book {
     let mut segments = vec![Seg { tag: 0, level: 0, body: Body::new(0, 0, &[0]) }];
     segments.extend((1..=levels).map(|i| Seg { tag: 3, level: i, body: Body::new(14, 0, &[2 * u32::from(i) - 2, 2]) }));
     let contents: Vec<Content> = (0..2 * u32::from(levels) + 2).map(|i| (1, i / 2, 1)).collect();

@@ -6,9 +6,11 @@ mod damage;
 mod differences;
 mod doc01;
 mod exhaustive;
+mod flatten;
 mod limits;
 mod run;
 mod sample;
+mod shown;
 
 use book::{Book, Case, Layer, NONE};
 use books::{Gen, Profile, Rng, boundaries, profiles};
@@ -226,6 +228,11 @@ fn main() {
     let folder = std::env::args().skip_while(|a| a != "--sample").nth(1);
     if let Some(folder) = folder {
         return sample(&mut compare, &classes, Path::new(&folder));
+    }
+    if flag("--flatten") {
+        let (rows, corrections, pairs) = (number("--rows", 480), number("--corrections", 100), number("--pairs", 6000));
+        flatten::all(&mut compare, &classes, &flatten::Counts { seed, books: number("--count", 30_000), rows, corrections, pairs, limits: !flag("--no-limits") });
+        std::process::exit(i32::from(compare.differences > 0));
     }
     for i in 0..count {
         one(&mut compare, &classes[i as usize % classes.len()], seed, i);

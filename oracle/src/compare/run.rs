@@ -21,9 +21,21 @@ pub struct Tally {
     pub left: u64,
     /// those of them that are accepted
     pub left_accepted: u64,
-    /// of the region alone
-    pub regions: bool,
+    pub of: Of,
     pub differences: u64,
+}
+
+/// What the cases of a class are.
+#[derive(Clone, Copy, Default, PartialEq)]
+pub enum Of {
+    #[default]
+    Merges,
+    /// the region alone
+    Regions,
+    /// document 02, wish 6
+    Flattenings,
+    /// corrections of the Rust's own book, which is never flattened
+    Rows,
 }
 
 pub enum Outcome {
@@ -34,9 +46,9 @@ pub enum Outcome {
 
 #[derive(Default)]
 pub struct Compare {
-    archive: Archive,
+    pub archive: Archive,
     classes: Vec<(&'static str, Tally)>,
-    aims: HashMap<&'static str, u64>,
+    pub aims: HashMap<&'static str, u64>,
     pub differences: u64,
     /// three of the listed differences; the fourth is what else is `left`
     keys_moved: u64,
@@ -75,7 +87,7 @@ fn equal_keys(old: &crate::book::Book, reading: &crate::book::Book, region: [usi
 }
 
 /// A graft of more items than this is not put to the Rust, which has no limit.
-const MOST: u64 = 3_000_000;
+pub const MOST: u64 = 3_000_000;
 
 fn hex(b: &[u8]) -> String {
     if b.is_empty() { "-".to_owned() } else { b.iter().map(|x| format!("{x:02x}")).collect() }
@@ -95,7 +107,7 @@ fn answer_of(m: &Merged) -> Answer {
 
 /// Document 02, wish 1: whether the two newlines before the end of the Rust's region are not both there in the new text. The Rust does not ask that. It can
 /// only be the cut one byte behind the edit's end.
-fn blank_line_lost(book: &Book, c: &Case) -> bool {
+pub fn blank_line_lost(book: &Book, c: &Case) -> bool {
     let (edit, replacement) = (c.start as usize..c.end as usize, std::str::from_utf8(&c.replacement).expect("passed number 2"));
     let Ok(Ok(region)) = catch_unwind(AssertUnwindSafe(|| judge::region(book, edit.clone(), replacement))) else { return false };
     let (old, new) = (book.text(), judge::edited(book.text(), &edit, replacement));
@@ -104,7 +116,7 @@ fn blank_line_lost(book: &Book, c: &Case) -> bool {
 }
 
 /// Document 02, wish 5: whether the Rust's region is empty and a mark of no width of the old book lies at its place. The Rust does not ask that.
-fn mark_touched(book: &Book, c: &Case) -> bool {
+pub fn mark_touched(book: &Book, c: &Case) -> bool {
     if book.marks().next().is_none() {
         return false;
     }
@@ -126,7 +138,7 @@ fn marks_twice(c: &Case, theirs: &Result<Answer, u32>) -> bool {
 }
 
 /// The same new text by a longer edit, which writes the newline behind the edit once more. No blank line is lost, so that the Rust's region is the wish's.
-fn longer(c: &Case, room: Option<Room>) -> Case {
+pub fn longer(c: &Case, room: Option<Room>) -> Case {
     Case { end: c.end + 1, replacement: [&c.replacement[..], b"\n"].concat(), room, ..c.clone() }
 }
 
@@ -400,7 +412,7 @@ impl Compare {
             false => theirs(c),
         };
         self.count(class, said.err(), left);
-        self.tally(class).regions = true;
+        self.tally(class).of = Of::Regions;
         if ours != said || left && said != theirs(&longer(c, None)) {
             self.differ(class, &format!("region: ours {ours:?} the judge {said:?}"), Some(c));
         }
@@ -461,16 +473,26 @@ impl Compare {
         }
     }
 
-    pub fn table(&self, seed: u64, count: u64) {
-        println!("seed {seed}, {count} books\n");
+    pub fn sum_of(&self, of: Of) -> Tally {
+        sum(self.classes.iter().map(|c| &c.1).filter(|t| t.of == of))
+    }
+
+    /// A row for each class; all together.
+    pub fn rows(&self) -> Tally {
         println!("| class | cases | accepted | put to the Rust | left to the list of differences | refused: number (times) | differences |\n|---|---|---|---|---|---|---|");
         for (name, t) in &self.classes {
             row(name, t);
         }
         let all = sum(self.classes.iter().map(|c| &c.1));
         row("together", &all);
-        for (what, regions) in [("merges", false), ("regions alone", true)] {
-            let t = sum(self.classes.iter().map(|c| &c.1).filter(|t| t.regions == regions));
+        all
+    }
+
+    pub fn table(&self, seed: u64, count: u64) {
+        println!("seed {seed}, {count} books\n");
+        let all = self.rows();
+        for (what, of) in [("merges", Of::Merges), ("regions alone", Of::Regions)] {
+            let t = self.sum_of(of);
             println!("\n{what}: {}, put to the Rust {}, left {}; accepted {}, of them by the Rust {}", t.cases, t.rust, t.left, t.accepted, t.accepted - t.left_accepted);
         }
         println!("\nlisted differences: equal keys in another order {}, counts of an earlier merge {}", self.keys_moved, self.earlier_counts);
@@ -479,6 +501,10 @@ impl Compare {
         println!("lookups: {}, regions of books by document 01: {}", self.lookups, self.regions_of_books);
         let met: Vec<String> = MET.iter().zip(self.met).map(|(what, n)| format!("{what} {n}")).collect();
         println!("accepted merges with {}", met.join(", "));
+        self.unmet();
+    }
+
+    pub fn unmet(&self) {
         let unmet: Vec<&str> = crate::damage::ALL.iter().map(|d| d.0).filter(|n| self.aims.get(n).is_none_or(|k| *k == 0)).collect();
         println!("damages that were never possible: {unmet:?}");
     }

@@ -2,7 +2,7 @@
 #![allow(dead_code, missing_docs, clippy::pedantic)]
 
 use aozora_incremental::*;
-use std::collections::BTreeSet;
+use std::collections::{BTreeSet, HashMap};
 use std::path::{Path, PathBuf};
 
 pub const ABC: &str = "aa\n\nbb\n\ncc";
@@ -17,6 +17,22 @@ pub fn ruby_reading() -> StoredBook {
     let mut b = BookBuilder::new();
     let (base, reading) = (b.plain("x"), b.plain("b"));
     b.node("xb", NodeRef::Inline(Node::Ruby { base, reading })).text("\n\n");
+    b.build_reading().unwrap()
+}
+
+/// A reading of "x\n\n" whose only node names the same run twice, level by level: 2 to the `levels`
+/// times what `inner` gives, between other texts.
+pub fn doubled(levels: usize, inner: impl FnOnce(&mut BookBuilder) -> Segment) -> StoredBook {
+    let mut b = BookBuilder::new();
+    let (inner, other) = (inner(&mut b), b.string("other"));
+    let mut run = b.segments(&[inner, Segment::text(other)]);
+    for _ in 0..levels {
+        let twice = b.contents(&[Content::Segments(run), Content::Segments(run)]);
+        let node = b.node_segment(Node::AngleQuote { content: twice });
+        run = b.segments(&[node]);
+    }
+    let content = b.contents(&[Content::Segments(run)]);
+    b.node("x", NodeRef::Inline(Node::AngleQuote { content })).text("\n\n");
     b.build_reading().unwrap()
 }
 
@@ -223,6 +239,11 @@ impl Lent {
         let room = Room::new(&mut self.tape, &mut self.bytes);
         raw::merge_for_desk(desk, ledger, book, edit, reading, room, &mut self.work)
     }
+
+    pub fn flatten(&mut self, book: Stored<'_>) -> Result<Lengths, Refusal> {
+        let room = Room::new(&mut self.tape, &mut self.bytes);
+        raw::flatten_book(book, room, &mut self.work)
+    }
 }
 
 /// The merge for a desk beside the merge, whose answer is given: the same answer, and its rereads
@@ -401,6 +422,169 @@ impl<'a> Calls<'a> {
             | Node::SectionBreak
             | Node::BodyEnd
             | Node::ForcedBreak => {}
+        }
+    }
+}
+
+/// Document 02, wish 6, of a book that can be flattened: one layer, the same shown, the bytes that its
+/// trees make; itself when it is flattened again; and in lent buffers of just its lengths or more,
+/// with few words or many. One byte less, or a word too few, is 18.
+pub fn flat_agrees(book: Stored<'_>) -> StoredBook {
+    let flat = flatten_book(book).unwrap();
+    let (old, new) = (Book::new(book).unwrap(), Book::new(&flat).unwrap());
+    assert_eq!(new.layers().len(), 1);
+    assert_eq!(old.shows_the_same(&new, 4 * MAX_POOL), Ok(true));
+    assert_eq!(flat, flat_by_trees(&old));
+    assert_eq!(flatten_book(&flat).unwrap(), flat);
+
+    let (tape, bytes) = (flat.tape.len(), flat.bytes.len());
+    // what README, the header and `raw` call enough for every book
+    assert_eq!(49_300_940, 5 * MAX_NEW_STRINGS + 47 * MAX_POOL);
+    let longest = old.strings().map(str::len).max().unwrap_or(0);
+    let more = if longest > 64 { MAX_NEW_STRINGS * longest } else { 0 };
+    assert!(tape <= book.tape.len() + 49_300_940 && bytes <= book.bytes.len() + more);
+    for (more, words) in [(0, WORK_WORDS), (1, WORK_WORDS + 1), (100, 2 * WORK_WORDS)] {
+        let mut lent = Lent::new(Lengths { tape: tape + more, bytes: bytes + more }, words);
+        assert_eq!(lent.flatten(book), Ok(Lengths { tape, bytes }));
+        assert_eq!(Stored::new(&lent.tape[..tape], &lent.bytes[..bytes]), flat.as_stored());
+        lent.tape.drain(..tape);
+        lent.bytes.drain(..bytes);
+        assert!(lent.is_zero());
+    }
+    let fewer_bytes = bytes.checked_sub(1).map(|bytes| (tape, bytes, WORK_WORDS));
+    let others = [(tape - 1, bytes, WORK_WORDS), (tape, bytes, WORK_WORDS - 1), (0, 0, 0)];
+    for (tape, bytes, words) in others.into_iter().chain(fewer_bytes) {
+        let mut lent = Lent::new(Lengths { tape, bytes }, words);
+        assert_eq!(lent.flatten(book), Err(Refusal::NoRoom));
+        assert!(lent.is_zero());
+    }
+    flat
+}
+
+/// The flat book, made of the trees of a book: its strings and lists in the order of section 5.
+pub fn flat_by_trees(book: &Book<'_>) -> StoredBook {
+    let mut flat = Flat::default();
+    for node in book.nodes() {
+        let tree = book.tree_within(&node, 4 * MAX_POOL).unwrap();
+        let grafted = tree.map(|tree| flat.node(&tree.node));
+        let grafted = match (node.node, grafted) {
+            (NodeRef::Inline(_), Some(grafted)) => NodeRef::Inline(grafted),
+            (NodeRef::BlockLeaf(_), Some(grafted)) => NodeRef::BlockLeaf(grafted),
+            (other, _) => other,
+        };
+        flat.b.raw_node(SourceNode { node: grafted, ..node });
+    }
+    let mut b = flat.b;
+    b.raw_texts(book.text(), book.normalized());
+    book.pairs().for_each(|pair| _ = b.pair(pair));
+    book.containers().for_each(|container| _ = b.container(container));
+    book.diagnostics().for_each(|diagnostic| _ = b.diagnostic(diagnostic));
+    b.build().unwrap()
+}
+
+/// A layer that grafting fills.
+#[derive(Default)]
+struct Flat {
+    b: BookBuilder,
+    short: HashMap<String, StrId>,
+    last: Option<(String, StrId)>,
+}
+
+impl Flat {
+    /// Section 2: the last answer's string again; a long one is new; a short one is new once.
+    fn string(&mut self, string: &str) -> StrId {
+        let id = match &self.last {
+            Some((last, id)) if last == string => *id,
+            _ if string.len() > 64 => self.b.string(string),
+            _ => {
+                let Self { b, short, .. } = self;
+                *short.entry(string.to_owned()).or_insert_with(|| b.string(string))
+            }
+        };
+        self.last = Some((string.to_owned(), id));
+        id
+    }
+
+    fn contents(&mut self, contents: &[TreeContent<'_>]) -> ContentRange {
+        let contents: Vec<Content> = contents.iter().map(|content| self.content(content)).collect();
+        self.b.contents(&contents)
+    }
+
+    fn content(&mut self, content: &TreeContent<'_>) -> Content {
+        match content {
+            Content::Plain(string) => Content::Plain(self.string(string)),
+            Content::Segments(segments) => {
+                let segments: Vec<Segment> = segments.iter().map(|s| self.segment(s)).collect();
+                Content::Segments(self.b.segments(&segments))
+            }
+        }
+    }
+
+    fn segment(&mut self, segment: &TreeSegment<'_>) -> Segment {
+        let item = match &segment.item {
+            SegmentItem::Text(string) => SegmentItem::Text(self.string(string)),
+            SegmentItem::Gaiji(gaiji) => SegmentItem::Gaiji(self.gaiji(gaiji)),
+            SegmentItem::Directive(d) => SegmentItem::Directive(self.directive(*d)),
+            SegmentItem::Node(node) => SegmentItem::Node(self.node(node)),
+        };
+        Segment { level: segment.level, item, plain: segment.plain }
+    }
+
+    fn gaiji(&mut self, gaiji: &Gaiji<&str>) -> Gaiji {
+        let canonical = match gaiji.canonical {
+            GaijiCanonical::MenKuTen => GaijiCanonical::MenKuTen,
+            GaijiCanonical::Unicode => GaijiCanonical::Unicode,
+            GaijiCanonical::Unresolved { mencode } => {
+                GaijiCanonical::Unresolved { mencode: mencode.map(|s| self.string(s)) }
+            }
+        };
+        Gaiji { hint: self.string(gaiji.hint), canonical }
+    }
+
+    fn directive(&mut self, directive: Directive<&str>) -> Directive {
+        Directive { raw: self.string(directive.raw), kind: directive.kind }
+    }
+
+    fn illustration(&mut self, i: &Illustration<&str, Vec<TreeSegment<'_>>>) -> Illustration {
+        Illustration {
+            file: self.string(i.file),
+            number: i.number.map(|s| self.string(s)),
+            dimensions: i.dimensions.map(|s| self.string(s)),
+            caption: i.caption.as_ref().map(|caption| self.content(caption)),
+            description: i.description.map(|s| self.string(s)),
+        }
+    }
+
+    fn node(&mut self, node: &TreeNode<'_>) -> Node {
+        match node {
+            Node::Ruby { base, reading } => {
+                Node::Ruby { base: self.contents(base), reading: self.contents(reading) }
+            }
+            Node::MarginNote { base, note } => {
+                Node::MarginNote { base: self.contents(base), note: self.contents(note) }
+            }
+            Node::Format { target, origin, payload } => {
+                let target = self.contents(target);
+                let payload = match payload {
+                    ForwardPayload::None => ForwardPayload::None,
+                    ForwardPayload::NestedSource => ForwardPayload::NestedSource,
+                    ForwardPayload::AccentBody(s) => ForwardPayload::AccentBody(self.string(s)),
+                    ForwardPayload::QuotedTarget(s) => ForwardPayload::QuotedTarget(self.string(s)),
+                };
+                Node::Format { target, origin: *origin, payload }
+            }
+            Node::Gaiji(gaiji) => Node::Gaiji(self.gaiji(gaiji)),
+            Node::Heading { text } => Node::Heading { text: self.contents(text) },
+            Node::AngleQuote { content } => Node::AngleQuote { content: self.contents(content) },
+            Node::HeadingHint { target } => Node::HeadingHint { target: self.string(target) },
+            Node::Kaeriten { mark } => Node::Kaeriten { mark: self.string(mark) },
+            Node::Illustration(i) => Node::Illustration(self.illustration(i)),
+            Node::Directive(directive) => Node::Directive(self.directive(*directive)),
+            Node::Line => Node::Line,
+            Node::PageBreak => Node::PageBreak,
+            Node::SectionBreak => Node::SectionBreak,
+            Node::BodyEnd => Node::BodyEnd,
+            Node::ForcedBreak => Node::ForcedBreak,
         }
     }
 }

@@ -87,7 +87,7 @@ graft_field-returns-in-Segments t c =
 pub graft_field-graft_string-requires : goal.graft_field-graft_string-requires
 graft_field-graft_string-requires t c =
     record {
-      indexed = (c.requires.ready.index, c.requires.ready.pairs);
+      indexed = c.requires.ready.index;
       good = (c.requires.ready.good, c.requires.ready.named);
       has_room = c.requires.ready.has;
       id_value = (
@@ -291,7 +291,7 @@ graft_content-overflow_add-place t c =
 pub graft_content-graft_str-requires : goal.graft_content-graft_str-requires
 graft_content-graft_str-requires t c =
     record {
-      indexed = (c.requires.ready.index, c.requires.ready.pairs);
+      indexed = c.requires.ready.index;
       good = (c.requires.ready.good, c.requires.ready.named);
       id_lt_strings = (
         plain_known _ _ _ _ c.content_at-c.ensures c.requires.at_in_bounds.1 (eqb-true _ _ (sym c.is_plain.ensures ∙ c.if-is_plain.true)),

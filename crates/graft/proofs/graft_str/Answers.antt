@@ -3,19 +3,11 @@ use Rattle.graft.specs.Named.{shows_by, is_answered}
 use Rattle.graft.specs.Strings.{id_small, str_answer_lem, str_refused}
 use Rattle.graft.proofs.graft_str.Goals as goal
 
-pub slice_bounds-representative-count : goal.slice_bounds-representative-count
-slice_bounds-representative-count c =
-    c.requires.good.0.words.room
-
-pub slice_bounds-representative-start : goal.slice_bounds-representative-start
-slice_bounds-representative-start c =
-    c.requires.good.0.words.room
-
 pub intern_str-requires : goal.intern_str-requires
 intern_str-requires c =
-    let shows = shows_by _ _ _ c.requires.good.0.words.room c.requires.indexed.1 _ c.representative-known.ensures.by_index in
+    let shows = shows_by _ _ c.args.w.now.paired _ c.representative-known.ensures.by_index in
     record {
-      indexed = c.requires.indexed.0;
+      indexed = c.requires.indexed;
       good = c.requires.good.0;
       id_lt_strings = (c.requires.id_lt_strings.0, c.requires.id_lt_strings.1);
       last = λ e. is_answered _ _ c.args.work.now c.args.strs.now c.args.m.now c.requires.good.1 _ _ shows (sym c.is_answered-is_last.ensures ∙ e);
@@ -31,7 +23,7 @@ overflow_add-result c =
 
 pub returns : goal.returns
 returns c =
-    let shows = shows_by _ _ _ c.requires.good.0.words.room c.requires.indexed.1 _ c.representative-known.ensures.by_index in
+    let shows = shows_by _ _ c.args.w.now.paired _ c.representative-known.ensures.by_index in
     λ out.
     str_answer_lem _ _ _ _ _ _ _ _ _ _ out _ refl c.requires.good.0 c.intern_str.auto.strs
     c.representative-known.result shows c.in_ok-string.string c.in_ok-string.ensures

@@ -1,6 +1,6 @@
 use Rattle.std.proofs.Common.{arith}
 use Rattle.interner.specs.Lookups.{last_there}
-use Rattle.graft.specs.Strings.{source_tape, part_inside, part_shows}
+use Rattle.graft.specs.Strings.{source_tape, index_lent, part_inside, part_shows}
 use Rattle.graft.proofs.intern_str.Goals as goal
 
 pub intern_last-requires : goal.intern_last-requires
@@ -17,7 +17,7 @@ returns-then-is_last c =
 pub string_from-from-requires : goal.string_from-from-requires
 string_from-from-requires c =
     record {
-      indexed = c.requires.indexed;
+      indexed = rw (index_lent c.args.work.now) c.requires.indexed;
       id_lt_strings = c.requires.id_lt_strings.0;
     }
 

@@ -1,4 +1,5 @@
-use Rattle.layer.specs.Walked.{index_there, pairs_there}
+use Rattle.strings.specs.Index.{index_written}
+use Rattle.layer.specs.Walked.{index_there}
 use native.Mathlib.Omega.{arith}
 use Rattle.layer.specs.Source.{source_readable}
 use Rattle.layer.proofs.index_words.Goals as goal
@@ -7,7 +8,4 @@ pub index_strings-requires : goal.index_strings-requires
 index_strings-requires c = source_readable c.args.source.now.held (omega arith)
 
 pub returns : goal.returns
-returns c =
-    let work = c.args.work.now in
-    let h = c.requires.min_work_words_in_bounds in
-    (index_there _ work h c.index_strings.ensures, pairs_there _ work h _ c.index_strings.ensures)
+returns c = index_there _ c.args.work.now c.requires.min_work_words_in_bounds (index_written _ _ c.index_strings.ensures)

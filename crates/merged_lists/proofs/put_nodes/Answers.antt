@@ -1,7 +1,7 @@
 use Rattle.model.specs.Tape.{node_codec, records_at}
 use Rattle.splice.specs.Window.{window_value}
 use Rattle.records.specs.Runs.{run_length}
-use Rattle.merged_lists.specs.Widths.{nodes_six}
+use Rattle.laws.specs.Parts.{nodes_six}
 use Rattle.merged_lists.specs.Lists.{nodes_wrote}
 use native.Mathlib.Omega.{arith}
 use Rattle.merged_lists.proofs.put_nodes.Goals as goal
