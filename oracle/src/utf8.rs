@@ -1,10 +1,10 @@
 //! Number 2 against the Rust's `from_utf8`: byte strings, random and damaged, go to `check_book` as the text, as a string between strings, and cut
 //! into four parts as text, normalized text and two strings. utf8 [--seed N] [--count N] prints how many there were and how many differ.
 
-#[link(name = "exports", kind = "static")]
-unsafe extern "C" {
-    fn aozora_check_book(tape: *const u8, tape_len: usize, bytes: *const u8, bytes_len: usize) -> u32;
-}
+#[path = "../../bindings/rust/src/ffi.rs"]
+mod ffi;
+#[path = "../../bindings/rust/src/lent.rs"]
+mod lent;
 
 struct Random(u64);
 
@@ -101,7 +101,7 @@ fn book(parts: &[&[u8]]) -> (Vec<u8>, Vec<u8>) {
 /// Whether both say the same. A book that passes number 2 here has answer 0, or 7 where its texts differ in length.
 fn agrees(parts: &[&[u8]]) -> bool {
     let (tape, bytes) = book(parts);
-    let number = unsafe { aozora_check_book(tape.as_ptr(), tape.len(), bytes.as_ptr(), bytes.len()) };
+    let number = ffi::check_book(lent::Stored::new(&tape, &bytes));
     let valid = parts.iter().all(|p| core::str::from_utf8(p).is_ok());
     number == if !valid { 2 } else if parts[0].len() == parts[1].len() { 0 } else { 7 }
 }

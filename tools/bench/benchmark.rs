@@ -1,7 +1,6 @@
 // The benchmark: the proved merge, tape to tape, beside the Rust's reparse on the same inputs, in one process. benchmark TEMPLATE DOCS writes
 // DOCS/BENCHMARKS.md and DOCS/benchmarks.svg and prints the tables. BUDGET is the number of seconds that the timed calls take together, about;
 // HOSTILE says how far the books made to be slow go (hostile.rs): 4mb, limits or off.
-use std::hint::black_box;
 use std::sync::Arc;
 use std::time::Instant;
 
@@ -11,6 +10,7 @@ use oracle::tape::{Book as RustBook, Reading as RustReading, quick};
 include!("archive.rs");
 include!("book.rs");
 include!("cases.rs");
+include!("clock.rs");
 include!("flatten.rs");
 include!("hostile.rs");
 include!("plot.rs");
@@ -44,10 +44,7 @@ impl Row {
     fn ratio(&self, a: usize, b: usize) -> f64 { self.median(a) / self.median(b) }
 }
 
-unsafe extern "C" {
-    fn clock_gettime(clock: i32, time: *mut [i64; 2]) -> i32;
-    fn mallopt(what: i32, value: i32) -> i32;
-}
+unsafe extern "C" { fn mallopt(what: i32, value: i32) -> i32; }
 
 // limit.c
 unsafe extern "C" {
@@ -62,30 +59,6 @@ fn keep_memory() {
     const TRIM_THRESHOLD: i32 = -1;
     const MMAP_MAX: i32 = -4;
     assert!(unsafe { mallopt(TRIM_THRESHOLD, i32::MAX) == 1 && mallopt(MMAP_MAX, 0) == 1 });
-}
-
-// Processor time of this thread, its page faults included: what else runs on the machine counts little.
-fn now() -> f64 {
-    const THREAD_CPUTIME: i32 = 3;
-    let mut time = [0; 2];
-    assert_eq!(unsafe { clock_gettime(THREAD_CPUTIME, &mut time) }, 0);
-    time[0] as f64 + time[1] as f64 * 1e-9
-}
-
-// what the call answers is dropped outside the clock
-fn clock<T>(f: impl FnOnce() -> T) -> f64 {
-    let start = now();
-    let value = black_box(f());
-    let seconds = now() - start;
-    drop(value);
-    seconds
-}
-
-// What the clock itself takes; it is taken off every time.
-fn clock_cost() -> f64 {
-    let mut v: Vec<f64> = (0..10001).map(|_| clock(|| ())).collect();
-    v.sort_by(f64::total_cmp);
-    v[5000]
 }
 
 type Side<'a> = (usize, Box<dyn FnMut() -> f64 + 'a>);
@@ -141,9 +114,9 @@ fn limit(c: &Case, result: &Tape, copy: &mut Tape) -> (i32, u64) {
     told
 }
 
-fn priced(c: &Case, words: &mut [u32]) -> Price { estimate(&c.book, c.edit, c.replacement.as_bytes(), &c.reading, words) }
+fn priced(c: &Case, words: &mut [u32]) -> ffi::PriceAnswer { estimate(&c.book, c.edit, c.replacement.as_bytes(), &c.reading, words) }
 
-fn ours(c: &Case, o: &mut Buffers) -> Answer { merge(&c.book, c.edit, c.replacement.as_bytes(), &c.reading, o) }
+fn ours(c: &Case, o: &mut Buffers) -> ffi::MergeAnswer { merge(&c.book, c.edit, c.replacement.as_bytes(), &c.reading, o) }
 
 // All sides on one case: they must agree in the region, the nodes kept and reread, the seven counts, the tape and the bytes. Answers the result,
 // whose lengths a caller has to lend.
@@ -152,12 +125,12 @@ fn agree(label: &str, c: &Case) -> Tape {
     let a = ours(c, &mut o);
     assert_eq!(a.number, 0, "{label}");
     let p = priced(c, &mut o.work);
-    assert_eq!((p.number, p.reread, u64::from(p.calls)), (0, a.reread, a.counts[0]), "{label}: the price");
+    assert_eq!((p.number, p.reread, u64::from(p.calls)), (0, a.reread, a.calls), "{label}: the price");
     let ((tape, bytes), m, _) = with_tapes(c);
-    assert_eq!((m.region.start, m.region.end, m.reused, m.reread, m.counts()), (a.start, a.end, a.reused, a.reread, a.counts), "{label}");
+    assert_eq!((m.region.start, m.region.end, m.reused, m.reread, m.counts()), (a.start, a.end, a.reused, a.reread, a.counts()), "{label}");
     assert!(tape == o.tape[..a.tape] && bytes == o.bytes[..a.bytes], "{label}: tape and bytes");
     let q = quickly(c);
-    assert_eq!((q.region.start, q.region.end, q.reused, q.reread, q.counts), (a.start, a.end, a.reused, a.reread, a.counts), "{label}, quick");
+    assert_eq!((q.region.start, q.region.end, q.reused, q.reread, q.counts), (a.start, a.end, a.reused, a.reread, a.counts()), "{label}, quick");
     assert!(q.tape == o.tape[..a.tape] && q.bytes == o.bytes[..a.bytes], "{label}: tape and bytes, quick");
     assert!(q.tape.capacity() == q.tape.len() && q.bytes.capacity() == q.bytes.len(), "{label}: room, quick");
     assert!(o.tape[a.tape..].iter().chain(&o.bytes[a.bytes..]).all(|b| *b == 0), "{label}: zeros behind the result");

@@ -272,6 +272,13 @@ const SIZES: [(usize, &str); 5] = [(10_000, "10 kB"), (100_000, "100 kB"), (1_00
 
 fn entry(group: Group, label: &str, make: impl Fn() -> Case + 'static) -> Entry { Entry { shown: vec![(group, label.to_string())], make: Box::new(make) } }
 
+fn thousands(n: usize) -> String {
+    let digits = n.to_string();
+    let mut s = String::new();
+    for (i, c) in digits.chars().enumerate() { if i > 0 && (digits.len() - i) % 3 == 0 { s.push(','); } s.push(c); }
+    s
+}
+
 fn all_cases() -> Vec<Entry> {
     let mut v = Vec::new();
     for kind in [Kind::Plain, Kind::Ruby, Kind::Formats] {

@@ -32,13 +32,6 @@ fn duration(seconds: f64) -> String {
 
 fn cell(t: Option<Times>) -> String { t.map_or(String::new(), |t| format!("{} ({})", duration(t.median), duration(t.best))) }
 
-fn thousands(n: usize) -> String {
-    let digits = n.to_string();
-    let mut s = String::new();
-    for (i, c) in digits.chars().enumerate() { if i > 0 && (digits.len() - i) % 3 == 0 { s.push(','); } s.push(c); }
-    s
-}
-
 fn line(r: &Row) -> String {
     let all: Vec<String> = [MERGE, CHECK, REGION, REPARSE, TAPES, QUICK, LIMIT].map(|i| duration(r.median(i))).into();
     let calls: usize = r.times.iter().flatten().map(|t| t.calls).sum();

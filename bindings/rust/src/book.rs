@@ -1,10 +1,10 @@
 //! Reading a book.
 
 use crate::calls;
+use crate::lent::Stored;
 use crate::record::{END, HEAD, LAYER, Operands, Record, StringLength};
 use crate::records::Records;
 use crate::refusal::Refusal;
-use crate::stored::Stored;
 use crate::syntax::{
     ContainerPair, Content, ContentRange, Diagnostic, PairLink, SegRange, Segment, SourceNode,
     Span, StrId,

@@ -1,14 +1,13 @@
 //! The entries with memory of their own.
 
 use crate::ledger::Ledger;
+use crate::lent::{Correction, Edit, Orders, Room, Stored};
 use crate::raw;
 use crate::record::Record;
 use crate::records::Records;
 use crate::refusal::Refusal;
 use crate::room;
-use crate::stored::{
-    Correction, Edit, Estimate, Lengths, Merged, Orders, Room, Stored, StoredBook,
-};
+use crate::stored::{Estimate, Lengths, Merged, StoredBook};
 use crate::syntax::{Content, ContentRange, SegRange, Segment, Span, StrId, WORK_WORDS};
 
 /// Is it a book? Numbers 1 to 7 of document 01; 0 of the archive is `Ok`.

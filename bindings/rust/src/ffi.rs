@@ -1,13 +1,16 @@
 //! The entries of the archive: the only `unsafe` code of this crate.
 //!
 //! The archive is `libexports.a`, made of crates/exports; bindings/c/aozora.h declares the same for
-//! C. Each entry is proved there to meet its contract on every input. What a contract cannot say,
-//! because it is about pointers, is left to the caller in C: a pointer is not null and is valid for
-//! its length, and what is written overlaps with nothing else that is passed. Here the type of a
-//! slice gives all three: `as_ptr` of a slice is never null, it is valid for `len` items for the
-//! time of the call, and a `&mut` slice overlaps with no other. Nothing is kept behind a call.
+//! C, and the tests below compare all three. `oracle` and `tools/bench` have this file too, by its
+//! path, so it names no other module but lent.rs.
+//!
+//! Each entry is proved to meet its contract on every input. What a contract cannot say, because it
+//! is about pointers, is left to the caller in C: a pointer is not null and is valid for its length,
+//! and what is written overlaps with nothing else that is passed. Here the type of a slice gives all
+//! three: `as_ptr` of a slice is never null, it is valid for `len` items for the time of the call,
+//! and a `&mut` slice overlaps with no other. Nothing is kept behind a call.
 
-use crate::stored::{Correction, Edit, Orders, Room, Stored};
+use super::lent::{Correction, Edit, Orders, Room, Stored};
 
 #[repr(C)]
 pub(crate) struct AllowedAnswer {
@@ -78,6 +81,22 @@ pub(crate) struct MergeAnswer {
     pub probe_steps: u64,
     pub tape: usize,
     pub bytes: usize,
+}
+
+impl MergeAnswer {
+    /// The interner's seven counts, in their order.
+    #[allow(dead_code)] // for `oracle` and `tools/bench`, which compare them with the Rust's
+    pub fn counts(&self) -> [u64; 7] {
+        [
+            self.calls,
+            self.cache_hits,
+            self.table_hits,
+            self.allocs,
+            self.long_bypass,
+            self.resizes,
+            self.probe_steps,
+        ]
+    }
 }
 
 #[repr(C)]
@@ -579,10 +598,12 @@ pub(crate) fn merge_both_orders(
 
 #[cfg(test)]
 mod tests {
-    //! The header is compiled, and says sizes and offsets of its own.
+    //! Structs: the header is compiled, and says sizes and offsets of its own. Entries: read as text,
+    //! here, in the header, and in the crates of which the archive is made.
 
     use super::*;
     use std::fmt::Write;
+    use std::fs;
     use std::mem::{align_of, offset_of, size_of};
     use std::path::Path;
     use std::process::Command;
@@ -615,6 +636,9 @@ mod tests {
                 )+
                 out + "return 0; }\n"
             }
+
+            /// Here and in C.
+            const NAMES: &[(&str, &str)] = &[$((stringify!($rust), $c)),+];
         };
     }
 
@@ -630,11 +654,77 @@ mod tests {
         "aozora_orders_answer" OrdersAnswer { earlier_first, later_second, later_first, earlier_second }
     }
 
+    fn file(path: &str) -> String {
+        fs::read_to_string(Path::new(env!("CARGO_MANIFEST_DIR")).join("../..").join(path)).unwrap()
+    }
+
+    /// What a text in Rust or Rattle declares, as C does: a slice is a pointer and a length.
+    fn entries(text: &str) -> Vec<String> {
+        let entry = |text: &str| {
+            let (name, rest) = text.split_once('(').unwrap();
+            let (parameters, rest) = rest.split_once(") -> ").unwrap();
+            let answer = rest.split([';', '\n']).next().unwrap().rsplit("::").next().unwrap();
+            let answer = NAMES.iter().find(|n| n.0 == answer).map_or("uint32_t", |n| n.1);
+            let parameters = parameters.split(',').filter_map(|p| p.trim().split_once(": "));
+            let parameters = parameters.map(|(name, kind)| match &*kind.replace("'a ", "") {
+                "u32" => format!("uint32_t {name}"),
+                "usize" => format!("size_t {name}"),
+                "*const u8" => format!("const uint8_t *{name}"),
+                "*mut u8" => format!("uint8_t *{name}"),
+                "*mut u32" => format!("uint32_t *{name}"),
+                "&[u8]" => format!("const uint8_t *{name}, size_t {name}_len"),
+                "&mut [u8]" => format!("uint8_t *{name}, size_t {name}_len"),
+                "&mut [u32]" => format!("uint32_t *{name}, size_t {name}_len"),
+                other => format!("{other} {name}"), // equal to none of the header
+            });
+            let parameters = parameters.collect::<Vec<_>>().join(", ");
+            format!("{answer} aozora_{}({parameters})", name.trim_end_matches("<'a>"))
+        };
+        let mut all: Vec<_> = text.split("fn aozora_").skip(1).map(entry).collect();
+        all.sort();
+        all
+    }
+
+    /// What the header declares.
+    fn header_entries() -> Vec<String> {
+        let mut text = file("bindings/c/aozora.h");
+        while let Some(start) = text.find("/*") {
+            let end = start + text[start..].find("*/").unwrap() + 2;
+            text.replace_range(start..end, "");
+        }
+        let line = |part: &str| part.split_whitespace().collect::<Vec<_>>().join(" ");
+        let names = |d: &String| d.split('(').next().unwrap().split(' ').count() == 2;
+        let mut all: Vec<_> =
+            text.split(';').map(line).filter(|d| d.ends_with(')') && names(d)).collect();
+        all.sort();
+        all
+    }
+
+    #[test]
+    fn entries_are_those_of_the_header_and_the_archive() {
+        let (_, ours) = include_str!("ffi.rs").split_once("unsafe extern").unwrap();
+        let ours = entries(ours.split_once("\n}\n").unwrap().0);
+        assert_eq!(ours, header_entries());
+        assert_eq!(ours, entries(&file("crates/exports/src/lib.rt")));
+    }
+
+    #[test]
+    fn structs_are_those_of_the_archive() {
+        let theirs = file("crates/answers/src/lib.rt");
+        let fields = |text: &str, name: &str| -> Vec<String> {
+            let (_, body) = text.split_once(&format!("struct {name} {{\n")).unwrap();
+            body.split('}').next().unwrap().lines().map(|f| f.trim().to_owned()).collect()
+        };
+        for (name, _) in NAMES {
+            assert_eq!(fields(include_str!("ffi.rs"), name), fields(&theirs, name), "{name}");
+        }
+    }
+
     #[test]
     fn structs_are_those_of_the_header() {
         let dir = std::env::temp_dir().join(format!("aozora-layout-{}", std::process::id()));
-        std::fs::create_dir_all(&dir).unwrap();
-        std::fs::write(dir.join("layout.c"), program()).unwrap();
+        fs::create_dir_all(&dir).unwrap();
+        fs::write(dir.join("layout.c"), program()).unwrap();
         let header = Path::new(env!("CARGO_MANIFEST_DIR")).join("../c");
         let mut cc = Command::new("cc");
         cc.args(["-std=c11", "-Wall", "-Werror", "-I"])
@@ -644,7 +734,7 @@ mod tests {
             .arg(dir.join("layout.c"));
         assert!(cc.status().unwrap().success());
         let theirs = Command::new(dir.join("layout")).output().unwrap().stdout;
-        std::fs::remove_dir_all(&dir).unwrap();
+        fs::remove_dir_all(&dir).unwrap();
         assert_eq!(String::from_utf8(theirs).unwrap(), ours());
     }
 }

@@ -55,8 +55,8 @@
 //!
 //! # What this crate adds, and that is not proved
 //!
-//! - the declarations of the entries, one private module with the crate's only `unsafe` code; a
-//!   test compares its structs with bindings/c/aozora.h;
+//! - the declarations of the entries, one private module with the crate's only `unsafe` code; its
+//!   tests compare them with bindings/c/aozora.h and with crates/exports and crates/answers;
 //! - memory: how large the result buffers of [`merge`], [`merge_for_desk`], [`merge_both_orders`]
 //!   and [`flatten_book`] have to be, and [`Estimate::room`]. Too small a guess would give number
 //!   18, never a wrong book or a charge;
@@ -98,6 +98,7 @@ mod calls;
 #[allow(unsafe_code, clippy::needless_pass_by_value)]
 mod ffi;
 mod ledger;
+mod lent;
 pub mod raw;
 mod record;
 mod records;
@@ -115,11 +116,10 @@ pub use calls::{
     merge_for_desk, merge_within, node_at_source,
 };
 pub use ledger::{DESKS, Ledger};
+pub use lent::{Correction, Edit, Orders, Room, Stored};
 pub use records::Records;
 pub use refusal::{NotARefusal, Refusal};
-pub use stored::{
-    Correction, Edit, Estimate, InternStats, Lengths, Merged, Orders, Room, Stored, StoredBook,
-};
+pub use stored::{Estimate, InternStats, Lengths, Merged, StoredBook};
 pub use syntax::{
     ContainerPair, Content, ContentRange, Diagnostic, DiagnosticKind, Directive, DirectiveKind,
     ForwardOrigin, ForwardPayload, Gaiji, GaijiCanonical, Illustration, MAX_LAYERS, MAX_LEVEL,

@@ -7,10 +7,9 @@
 use std::ops::Range;
 
 use crate::ffi;
+use crate::lent::{Correction, Edit, Orders, Room, Stored};
 use crate::refusal::Refusal;
-use crate::stored::{
-    Correction, Edit, Estimate, InternStats, Lengths, Merged, Orders, Room, Stored,
-};
+use crate::stored::{Estimate, InternStats, Lengths, Merged};
 use crate::syntax::{ContentRange, SegRange, Span, StrId};
 
 /// Is it a book: numbers 1 to 7?

@@ -2,7 +2,8 @@
 //! rests on it but memory: where it said too little, the call would be refused with 18.
 
 use crate::book::Book;
-use crate::stored::{Edit, Estimate, Lengths, Stored};
+use crate::lent::{Edit, Stored};
+use crate::stored::{Estimate, Lengths};
 use crate::syntax::{
     Content, ContentRange, ForwardPayload, GaijiCanonical, MAX_LEVEL, MAX_NEW_STRINGS, MAX_POOL,
     Node, SegRange, Segment, SegmentItem, StrId,

@@ -6,6 +6,8 @@ ghost use Rattle.model.specs.Tape.{record_at, content_codec};
 ghost use Rattle.records.specs.Values.{body_at};
 ghost use Rattle.alike.specs.Alike.{Alike};
 
+use numbers::{CONTENT_SIZE, SEGMENT_SIZE};
+
 // Are these two contents the same? For segments, the same below, by their bodies: a function of both would take the size, where in a record it begins,
 // and the test.
 fn same_content(tape: &[u8], a: usize, b: usize) -> bool
@@ -22,7 +24,7 @@ pub fn contents_alike(tape: &[u8], at: usize, most: usize) -> usize
     ensures { Alike (λ (j : ℕ). record_at content_codec tape.now (at + 10 * j)) most result }
 {
     for k in 0..most {
-        if !same_content(tape, at, at + 10 * (k + 1)) {
+        if !same_content(tape, at, at + CONTENT_SIZE * (k + 1)) {
             return k;
         }
     }
@@ -43,7 +45,7 @@ pub fn segments_alike(tape: &[u8], at: usize, most: usize) -> usize
     ensures { Alike (λ (j : ℕ). body_at tape.now (at + 37 * j + 3)) most result }
 {
     for k in 0..most {
-        if !same_body(tape, at + 3, at + 37 * (k + 1) + 3) {
+        if !same_body(tape, at + 3, at + SEGMENT_SIZE * (k + 1) + 3) {
             return k;
         }
     }

@@ -243,8 +243,8 @@ impl From<Result<Span, Refusal>> for RegionAnswer {
         match a {
             Ok(Span { start, end }) => RegionAnswer {
                 number: 0,
-                start,
-                end,
+                start: start.0,
+                end: end.0,
             },
             Err(refusal) => RegionAnswer {
                 number: u32::from(refusal),

@@ -9,7 +9,7 @@ use Rattle.std.proofs.Math.ListN.{length}
 use borrow.Author.Tests.{ltb-true, ltb-false, leb-true, leb-false, eqb-true, eqb-false}
 use Rattle.model.specs.Types.{SourceNode, PairLink}
 use Rattle.model.specs.Region.{newline_at, blank_line_before, nodes_allow_cut, pairs_allow_cut}
-use Rattle.wire.specs.Loops.{by_bool}
+use Rattle.facts.specs.Truth.{by_bool}
 use Rattle.cuts.specs.Safe.{cut_allowed, safe_test, safe_cut_in}
 use Rattle.balanced_region.specs.Ends.{region_end_in}
 use Rattle.cuts.specs.Offsets.{Refused, refused_none, refused_join, first_in, first_is, refused_part, first_none, First, first_of}

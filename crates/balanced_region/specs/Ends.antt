@@ -6,8 +6,7 @@ use Rattle.std.proofs.Math.Path.{refl}
 use Rattle.model.specs.Offset.{Span}
 use Rattle.model.specs.Types.{SourceNode, PairLink, LexOutput}
 use Rattle.model.specs.Region.{newline_at, region_start}
-use Rattle.wire.specs.Loops.{by_bool}
-use Rattle.balanced_region.specs.declared.Region.{Region}
+use Rattle.facts.specs.Truth.{by_bool}
 use Rattle.cuts.specs.Safe.{safe_cut_in, safe_book}
 
 -- Section 6. Start: the last safe offset after a newline, at or before an offset, else 0.
@@ -27,9 +26,6 @@ region_end_in text ns ps (suc n) o =
 -- Section 6. Both ends, by the offsets from which they are looked for.
 unfoldable pub balanced_in : List ℕ → List SourceNode → List PairLink → ℕ → ℕ → Span
 balanced_in text ns ps start from = record { start = region_start_in text ns ps start; end = region_end_in text ns ps (length text - from) from }
-
-abbrev pub region_of : Region → Span
-region_of r = record { start = r.start; end = r.end }
 
 module _ (text : List ℕ) (ns : List SourceNode) (ps : List PairLink) where
   -- ---- the region holds the edit and lies inside the text

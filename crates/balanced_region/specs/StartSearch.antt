@@ -10,8 +10,7 @@ use Rattle.std.proofs.Math.Dec.{leb}
 use borrow.Author.Tests.{ltb-true, ltb-false, eq-eqb, ne_eqb, le-leb}
 use Rattle.model.specs.Types.{SourceNode, PairLink}
 use Rattle.model.specs.Region.{newline_at, nodes_allow_cut}
-use Rattle.laws.specs.Lists.{both}
-use Rattle.wire.specs.Loops.{by_bool}
+use Rattle.facts.specs.Truth.{both, by_bool}
 use Rattle.cuts.specs.Safe.{safe_cut_in, cut_allowed, safe_test}
 use Rattle.balanced_region.specs.Ends.{region_start_in}
 use Rattle.cuts.specs.Offsets.{last_from, Latest, last_or, last_is, LastOr, Refused, latest_is, latest_of, refused_part, refused_join}

@@ -12,8 +12,8 @@ use borrow.Author.Tests.{ltb-true, ltb-false, eqb-true, eqb-false, le-leb, lt-le
 use Rattle.model.specs.Offset.{Span}
 use Rattle.model.specs.Types.{SourceNode, PairLink, LexOutput}
 use Rattle.model.specs.Region.{Edit, edited, behind_edit, newline_at, blank_line_before, nodes_allow_cut, pairs_allow_cut, safe_cut, end_cut, region_end, balanced_region}
+use Rattle.facts.specs.Truth.{by_bool}
 use Rattle.laws.specs.Splice.{byte_front, byte_inner, byte_rest}
-use Rattle.wire.specs.Loops.{by_bool}
 use Rattle.cuts.specs.Safe.{safe_book}
 use Rattle.balanced_region.specs.Ends.{region_end_in, balanced_in, start_book}
 

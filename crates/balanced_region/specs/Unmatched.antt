@@ -9,9 +9,8 @@ use borrow.Author.Tests.{lt-ltb, le-ltb, ltb-false, eqb-true, eqb-false}
 use Rattle.model.specs.Types.{SourceNode}
 use Rattle.model.specs.Tape.{record_at, records_at, node_codec}
 use Rattle.model.specs.Region.{is_block_open, is_block_close, is_warichu_open, is_warichu_close, depth_behind}
-use Rattle.laws.specs.Lists.{neither}
+use Rattle.facts.specs.Truth.{neither, by_bool}
 use Rattle.records.specs.Runs.{run_cons, run_none}
-use Rattle.wire.specs.Loops.{by_bool}
 use Rattle.places.specs.declared.Run.{Run}
 use Rattle.balanced_region.specs.declared.Passed.{Passed}
 use Rattle.cuts.specs.Depths.{closes_unopened, no_block_both, no_warichu_both}

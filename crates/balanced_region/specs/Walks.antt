@@ -3,8 +3,8 @@ use Rattle.std.specs.Prelude.{ℕ, ◌+◌, ◌-◌, ◌≤◌, ◌<◌, max, mi
 use Rattle.std.proofs.Common.{arith, sym, ap, ◌∙◌, ltb-true, ltb-false}
 use Rattle.std.proofs.Math.Logic.{inl}
 use Rattle.model.specs.Region.{is_block_open, is_block_close, is_warichu_open, is_warichu_close, depth_behind, nodes_allow_cut}
+use Rattle.facts.specs.Truth.{by_bool}
 use Rattle.places.specs.declared.Run.{Run}
-use Rattle.wire.specs.Loops.{by_bool}
 use Rattle.cuts.specs.Safe.{cut_allowed}
 use Rattle.balanced_region.specs.Ends.{region_end_in, region_start_in}
 use Rattle.cuts.specs.Offsets.{Refused, refused_none, Latest, latest_none}

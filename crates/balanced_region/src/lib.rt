@@ -9,7 +9,8 @@
 
 ghost use Rattle.std.specs.Prelude.{◌≡◌, ◌+◌, ◌-◌, ◌*◌, ◌≤◌, ◌<◌, max, min, length};
 ghost use Rattle.model.specs.Tape.{record_at, node_codec};
-ghost use Rattle.balanced_region.specs.Ends.{region_end_in, region_start_in, region_of};
+ghost use Rattle.span.specs.Values.{span_of};
+ghost use Rattle.balanced_region.specs.Ends.{region_end_in, region_start_in};
 ghost use Rattle.balanced_region.specs.Survives.{newline_kept, search_from};
 ghost use Rattle.cuts.specs.Offsets.{first_in, last_from};
 ghost use Rattle.cuts.specs.Window.{Window};
@@ -20,6 +21,8 @@ ghost use Rattle.balanced_region.specs.Unmatched.{last_unmatched, depths_past, d
 ghost use Rattle.balanced_region.specs.StartSearch.{gap_last, last_cut, ends_behind_newline};
 
 use cuts::{Depths, Source};
+use numbers::NODE_SIZE;
+use span::{SourceOffset, Span};
 
 // An offset that is asked about is another at each call, so that it lies in the text is said there. Where there is no cut an offset says so, as in
 // the definitions: the gap's end, which the caller has, or the d handed in, which the next gap takes. An `Option` would be taken apart at each gap.
@@ -27,23 +30,28 @@ use cuts::{Depths, Source};
 // The next offset to try for a cut that text and pairs allow: where a pair lies across, all up to its end are refused. It is o itself
 // where o is such a cut: from any other the search goes on. The words hold a window from one call to the next; why they are lent, and no part of a
 // struct, is said at `Source::reach_at`.
-fn next_try(source: &Source, o: usize, words: &mut [u32]) -> usize
-    requires inside { o ≤ length source.now.text.now }
+fn next_try(source: &Source, o: SourceOffset, words: &mut [u32]) -> SourceOffset
+    requires inside { o.0 ≤ length source.now.text.now }
     requires window { Window (pairs_in source.now) words.old }
-    ensures value { result ≡ next_try source.now.text.now (pairs_in source.now) o }
+    ensures value { result.0 ≡ next_try source.now.text.now (pairs_in source.now) o.0 }
     ensures window_2 { Window (pairs_in source.now) words.new }
 {
     if !cuts::blank_line_before(source.text, o) {
-        return o + 1;
+        return SourceOffset(o.0 + 1);
     }
-    o.max(source.reach_at(o, words) as usize)
+    o.max(source.reach_at(o, words))
 }
 
 // The first offset from lo on and before hi that text and pairs allow, else hi. Each step is as long as `next_try` says.
-fn first_cut_in(source: &Source, lo: usize, hi: usize, words: &mut [u32]) -> usize
-    requires inside { hi ≤ length source.now.text.now }
+fn first_cut_in(
+    source: &Source,
+    lo: SourceOffset,
+    hi: SourceOffset,
+    words: &mut [u32],
+) -> SourceOffset
+    requires inside { hi.0 ≤ length source.now.text.now }
     requires window { Window (pairs_in source.now) words.old }
-    ensures value { result ≡ first_in (text_pairs_allow source.now.text.now (pairs_in source.now)) (hi - lo) hi }
+    ensures value { result.0 ≡ first_in (text_pairs_allow source.now.text.now (pairs_in source.now)) (hi.0 - lo.0) hi.0 }
     ensures window_2 { Window (pairs_in source.now) words.new }
 {
     let mut c = lo;
@@ -60,44 +68,44 @@ fn first_cut_in(source: &Source, lo: usize, hi: usize, words: &mut [u32]) -> usi
 // The same of the gap that begins at `from`, behind `o`, where the nodes before it leave these depths.
 fn gap_first(
     source: &Source,
-    from: usize,
-    o: usize,
-    hi: usize,
+    from: SourceOffset,
+    o: SourceOffset,
+    hi: SourceOffset,
     depths: Depths,
     words: &mut [u32],
-) -> usize
-    requires inside { (hi ≤ length source.now.text.now) × (o ≤ length source.now.text.now) }
+) -> SourceOffset
+    requires inside { (hi.0 ≤ length source.now.text.now) × (o.0 ≤ length source.now.text.now) }
     requires window { Window (pairs_in source.now) words.old }
-    ensures value { result ≡ gap_first source.now.text.now (pairs_in source.now) depths.blocks depths.warichu (max from (o + 1)) hi }
+    ensures value { result.0 ≡ gap_first source.now.text.now (pairs_in source.now) depths.blocks depths.warichu (max from.0 (o.0 + 1)) hi.0 }
     ensures window_2 { Window (pairs_in source.now) words.new }
 {
     if !depths.are_zero() {
         return hi;
     }
-    first_cut_in(source, from.max(o + 1), hi, words)
+    first_cut_in(source, from.max(SourceOffset(o.0 + 1)), hi, words)
 }
 
 // Section 6. End: the first safe offset after a newline at or behind an offset, else the length.
-pub fn region_end(source: &Source, o: usize, words: &mut [u32]) -> usize
-    requires inside { o ≤ length source.now.text.now }
+fn region_end(source: &Source, o: SourceOffset, words: &mut [u32]) -> SourceOffset
+    requires inside { o.0 ≤ length source.now.text.now }
     requires nodes_in { NodesIn (length source.now.text.now) (nodes_in source.now) }
     requires window { Window (pairs_in source.now) words.old }
-    ensures value { result ≡ region_end_in source.now.text.now (nodes_in source.now) (pairs_in source.now) (length source.now.text.now - o) o }
+    ensures value { result.0 ≡ region_end_in source.now.text.now (nodes_in source.now) (pairs_in source.now) (length source.now.text.now - o.0) o.0 }
     ensures window_2 { Window (pairs_in source.now) words.new }
 {
-    let mut from: usize = 0;
+    let mut from = SourceOffset(0);
     let mut depths = Depths::NONE;
     for i in 0..source.nodes.count {
-        let p = source.nodes.at + 49 * i;
-        let start = records::node_start(source.tape, p) as usize;
-        let c = gap_first(source, from, o, start + 1, depths, words);
+        let p = source.nodes.at + NODE_SIZE * i;
+        let start = records::node_start(source.tape, p);
+        let c = gap_first(source, from, o, SourceOffset(start.0 + 1), depths, words);
         if c <= start {
             return c;
         }
-        from = records::node_end(source.tape, p) as usize;
+        from = records::node_end(source.tape, p);
         depths = depths.past(source.tape, p);
     }
-    gap_first(source, from, o, source.text.len(), depths, words)
+    gap_first(source, from, o, source.end(), depths, words)
 }
 
 // What a number of nodes leave: both depths, and how many there are up to and with the last that closes at depth 0. Behind that
@@ -135,8 +143,8 @@ impl Passed {
 }
 
 // The depths behind the nodes that start before `bound`. How many they are is a part of the depths: a `for` would count twice.
-fn depths_before(source: &Source, bound: usize) -> Passed
-    ensures { result ≡ depths_before bound no_depths (nodes_in source.now) }
+fn depths_before(source: &Source, bound: SourceOffset) -> Passed
+    ensures { result ≡ depths_before bound.0 no_depths (nodes_in source.now) }
 {
     let mut d = Passed {
         count: 0,
@@ -144,8 +152,8 @@ fn depths_before(source: &Source, bound: usize) -> Passed
         unmatched: 0,
     };
     while d.count < source.nodes.count {
-        let p = source.nodes.at + 49 * d.count;
-        if bound <= records::node_start(source.tape, p) as usize {
+        let p = source.nodes.at + NODE_SIZE * d.count;
+        if bound <= records::node_start(source.tape, p) {
             return d;
         }
         d = d.past(source.tape, p);
@@ -154,25 +162,31 @@ fn depths_before(source: &Source, bound: usize) -> Passed
 }
 
 // Do text and pairs allow it?
-fn text_pairs_allow(source: &Source, o: usize, words: &mut [u32]) -> bool
-    requires inside { o ≤ length source.now.text.now }
+fn text_pairs_allow(source: &Source, o: SourceOffset, words: &mut [u32]) -> bool
+    requires inside { o.0 ≤ length source.now.text.now }
     requires window { Window (pairs_in source.now) words.old }
-    ensures value { result ≡ text_pairs_allow source.now.text.now (pairs_in source.now) o }
+    ensures value { result ≡ text_pairs_allow source.now.text.now (pairs_in source.now) o.0 }
     ensures window_2 { Window (pairs_in source.now) words.new }
 {
     next_try(source, o, words) == o
 }
 
 // The last offset from lo on and before hi that text and pairs allow, else d. Downwards, as `last_from` recurses.
-fn last_cut_in(source: &Source, lo: usize, hi: usize, d: usize, words: &mut [u32]) -> usize
-    requires inside { hi ≤ length source.now.text.now + 1 }
+fn last_cut_in(
+    source: &Source,
+    lo: SourceOffset,
+    hi: SourceOffset,
+    d: SourceOffset,
+    words: &mut [u32],
+) -> SourceOffset
+    requires inside { hi.0 ≤ length source.now.text.now + 1 }
     requires window { Window (pairs_in source.now) words.old }
-    ensures value { result ≡ last_from (text_pairs_allow source.now.text.now (pairs_in source.now)) (hi - lo) lo d }
+    ensures value { result.0 ≡ last_from (text_pairs_allow source.now.text.now (pairs_in source.now)) (hi.0 - lo.0) lo.0 d.0 }
     ensures window_2 { Window (pairs_in source.now) words.new }
 {
-    for c in (lo..hi).rev() {
-        if text_pairs_allow(source, c, words) {
-            return c;
+    for c in (lo.0..hi.0).rev() {
+        if text_pairs_allow(source, SourceOffset(c), words) {
+            return SourceOffset(c);
         }
     }
     d
@@ -181,15 +195,15 @@ fn last_cut_in(source: &Source, lo: usize, hi: usize, d: usize, words: &mut [u32
 // The same of a gap where the nodes before it leave these depths.
 fn gap_last(
     source: &Source,
-    lo: usize,
-    hi: usize,
+    lo: SourceOffset,
+    hi: SourceOffset,
     depths: Depths,
-    d: usize,
+    d: SourceOffset,
     words: &mut [u32],
-) -> usize
-    requires inside { hi ≤ length source.now.text.now + 1 }
+) -> SourceOffset
+    requires inside { hi.0 ≤ length source.now.text.now + 1 }
     requires window { Window (pairs_in source.now) words.old }
-    ensures value { result ≡ gap_last source.now.text.now (pairs_in source.now) depths.blocks depths.warichu lo hi d }
+    ensures value { result.0 ≡ gap_last source.now.text.now (pairs_in source.now) depths.blocks depths.warichu lo.0 hi.0 d.0 }
     ensures window_2 { Window (pairs_in source.now) words.new }
 {
     if !depths.are_zero() {
@@ -199,22 +213,22 @@ fn gap_last(
 }
 
 // Where the gap behind i nodes begins; that before the first node at 1, since 0 needs no search.
-fn gap_from(source: &Source, i: usize) -> usize
+fn gap_from(source: &Source, i: usize) -> SourceOffset
     requires { i ≤ source.now.nodes.count }
-    ensures { result ≡ gap_from source.now.tape.now source.now.nodes i }
+    ensures { result.0 ≡ gap_from source.now.tape.now source.now.nodes i }
 {
     if i == 0 {
-        return 1;
+        return SourceOffset(1);
     }
-    records::node_end(source.tape, source.nodes.at + 49 * (i - 1)) as usize
+    records::node_end(source.tape, source.nodes.at + NODE_SIZE * (i - 1))
 }
 
 // The last cut at or before `bound`, behind the last unmatched close, else 0.
-fn last_cut(source: &Source, d: Passed, bound: usize, words: &mut [u32]) -> usize
-    requires inside { bound ≤ length source.now.text.now }
-    requires front { Front source.now.tape.now source.now.nodes bound d }
+fn last_cut(source: &Source, d: Passed, bound: SourceOffset, words: &mut [u32]) -> SourceOffset
+    requires inside { bound.0 ≤ length source.now.text.now }
+    requires front { Front source.now.tape.now source.now.nodes bound.0 d }
     requires window { Window (pairs_in source.now) words.old }
-    ensures value { result ≡ last_cut source.now.text.now (nodes_in source.now) (pairs_in source.now) (gap_from source.now.tape.now source.now.nodes d.unmatched) bound }
+    ensures value { result.0 ≡ last_cut source.now.text.now (nodes_in source.now) (pairs_in source.now) (gap_from source.now.tape.now source.now.nodes d.unmatched) bound.0 }
     ensures window_2 { Window (pairs_in source.now) words.new }
 {
     let mut i = d.count;
@@ -224,57 +238,67 @@ fn last_cut(source: &Source, d: Passed, bound: usize, words: &mut [u32]) -> usiz
     // none, and is where the search goes on.
     loop {
         let lo = gap_from(source, i);
-        let c = gap_last(source, lo, hi + 1, depths, hi.min(lo - 1), words);
+        let past = SourceOffset(hi.0 + 1);
+        let c = gap_last(
+            source,
+            lo,
+            past,
+            depths,
+            hi.min(SourceOffset(lo.0 - 1)),
+            words,
+        );
         if lo <= c {
             return c;
         }
         if i <= d.unmatched {
-            return 0;
+            return SourceOffset(0);
         }
         i -= 1;
-        let p = source.nodes.at + 49 * i;
-        hi = c.min(records::node_start(source.tape, p) as usize);
+        let p = source.nodes.at + NODE_SIZE * i;
+        hi = c.min(records::node_start(source.tape, p));
         depths = depths.before(source.tape, p);
     }
 }
 
 // The last offset at or before `bound` that is a cut, else 0, by a walk from the first node on.
-fn last_cut_before(source: &Source, bound: usize, words: &mut [u32]) -> usize
-    requires inside { bound ≤ length source.now.text.now }
+fn last_cut_before(source: &Source, bound: SourceOffset, words: &mut [u32]) -> SourceOffset
+    requires inside { bound.0 ≤ length source.now.text.now }
     requires window { Window (pairs_in source.now) words.old }
-    ensures value { result ≡ last_cut source.now.text.now (nodes_in source.now) (pairs_in source.now) 1 bound }
+    ensures value { result.0 ≡ last_cut source.now.text.now (nodes_in source.now) (pairs_in source.now) 1 bound.0 }
     ensures window_2 { Window (pairs_in source.now) words.new }
 {
-    let mut from: usize = 0;
+    let past = SourceOffset(bound.0 + 1);
+    let mut from = SourceOffset(0);
     let mut depths = Depths::NONE;
-    let mut last: usize = 0;
+    let mut last = SourceOffset(0);
     for i in 0..source.nodes.count {
-        let p = source.nodes.at + 49 * i;
-        let start = records::node_start(source.tape, p) as usize;
+        let p = source.nodes.at + NODE_SIZE * i;
+        let start = records::node_start(source.tape, p);
         if bound <= start {
-            return gap_last(source, from, bound + 1, depths, last, words);
+            return gap_last(source, from, past, depths, last, words);
         }
-        last = gap_last(source, from, start + 1, depths, last, words);
-        from = records::node_end(source.tape, p) as usize;
+        last = gap_last(source, from, SourceOffset(start.0 + 1), depths, last, words);
+        from = records::node_end(source.tape, p);
         depths = depths.past(source.tape, p);
     }
-    gap_last(source, from, bound + 1, depths, last, words)
+    gap_last(source, from, past, depths, last, words)
 }
 
 // Is it the end of the text, and a newline before it?
 #[tactic(auto, using(std::proofs::lemmas::Bool::Decides::nat_tests), unfolding(crate::specs::StartSearch::ends_behind_newline))]
-fn ends_behind_newline(text: &[u8], o: usize) -> bool
-    requires { o ≤ length text.now }
-    ensures { result ≡ ends_behind_newline text.now o }
+fn ends_behind_newline(text: &[u8], o: SourceOffset) -> bool
+    requires { o.0 ≤ length text.now }
+    ensures { result ≡ ends_behind_newline text.now o.0 }
 {
+    let o = o.0 as usize;
     o == text.len() && 1 <= o && text[o - 1] == b'\n'
 }
 
 // Section 6. Start: the last safe offset after a newline, at or before an offset, else 0.
-pub fn region_start(source: &Source, o: usize, words: &mut [u32]) -> usize
-    requires inside { o ≤ length source.now.text.now }
+fn region_start(source: &Source, o: SourceOffset, words: &mut [u32]) -> SourceOffset
+    requires inside { o.0 ≤ length source.now.text.now }
     requires window { Window (pairs_in source.now) words.old }
-    ensures value { result ≡ region_start_in source.now.text.now (nodes_in source.now) (pairs_in source.now) o }
+    ensures value { result.0 ≡ region_start_in source.now.text.now (nodes_in source.now) (pairs_in source.now) o.0 }
     ensures window_2 { Window (pairs_in source.now) words.new }
 {
     if ends_behind_newline(source.text, o) {
@@ -282,33 +306,26 @@ pub fn region_start(source: &Source, o: usize, words: &mut [u32]) -> usize
     }
     let d = depths_before(source, o);
     let c = last_cut(source, d, o, words);
-    if 0 < c {
+    if 0 < c.0 {
         return c;
     }
     if d.unmatched == 0 {
-        return 0;
+        return SourceOffset(0);
     }
-    let start = records::node_start(source.tape, source.nodes.at + 49 * (d.unmatched - 1)) as usize;
+    let start = records::node_start(source.tape, source.nodes.at + NODE_SIZE * (d.unmatched - 1));
     last_cut_before(source, o.min(start), words)
-}
-
-// Offsets of the old text, as the walks count them; number 11 is asked before they are a `Span`, of 32 bits.
-#[derive(Clone, Copy, Debug, PartialEq, Eq)]
-pub struct Region {
-    pub start: usize,
-    pub end: usize,
 }
 
 // A source inside whose text the nodes lie, and an edit of that text.
 #[derive(Clone, Copy)]
 pub struct Edited<'a> {
     pub source: Source<'a>,
-    pub start: usize,
-    pub end: usize,
+    pub start: SourceOffset,
+    pub end: SourceOffset,
     pub replacement: &'a [u8],
     pub ghost nodes_in: { NodesIn (length source.text.now) (nodes_of source.tape.now source.nodes) },
-    pub ghost start_inside: { start ≤ length source.text.now },
-    pub ghost end_inside: { end ≤ length source.text.now },
+    pub ghost start_inside: { start.0 ≤ length source.text.now },
+    pub ghost end_inside: { end.0 ≤ length source.text.now },
 }
 
 // Where fewer words than these are lent, the region is found by as many that are not lent: with a small window the pairs are walked more often.
@@ -326,56 +343,56 @@ impl<'a> Edited<'a> {
     // edit.
     #[tactic(auto, using(std::proofs::lemmas::Bool::Decides::nat_tests), unfolding(crate::specs::Survives::newline_kept))]
     fn newline_kept(&self) -> bool
-        ensures { result ≡ newline_kept self.now.source.text.now self.now.start self.now.replacement.now }
+        ensures { result ≡ newline_kept self.now.source.text.now self.now.start.0 self.now.replacement.now }
     {
         let n = self.replacement.len();
         if 0 < n {
             self.replacement[n - 1] == b'\n'
         } else {
-            1 <= self.start && self.source.text[self.start - 1] == b'\n'
+            1 <= self.start.0 && self.source.text[self.start.0 as usize - 1] == b'\n'
         }
     }
 
     // Wish 1. Where the search for the end begins. Only the cut one byte behind the edit's end can lose its blank line in the new text;
     // then it is passed over.
     #[tactic(auto, using(std::proofs::lemmas::Bool::Decides::nat_tests), unfolding(crate::specs::Survives::search_from))]
-    fn search_from(&self) -> usize
-        ensures { result ≡ search_from self.now.source.text.now self.now.start self.now.end self.now.replacement.now }
+    fn search_from(&self) -> SourceOffset
+        ensures { result.0 ≡ search_from self.now.source.text.now self.now.start.0 self.now.end.0 self.now.replacement.now }
     {
-        if self.end == self.source.text.len() || self.newline_kept() {
+        if self.end == self.source.end() || self.newline_kept() {
             self.end
         } else {
-            self.end + 1
+            SourceOffset(self.end.0 + 1)
         }
     }
 
     // The region, with these words for the windows.
-    fn region_in(&self, words: &mut [u32]) -> Region
-        ensures { region_of result ≡ region_around self.now }
+    fn region_in(&self, words: &mut [u32]) -> Span
+        ensures { span_of result ≡ region_around self.now }
     {
         let behind = self.search_from();
         cuts::no_window(words);
         let from = region_start(&self.source, self.start, words);
         cuts::no_window(words);
         let to = region_end(&self.source, behind, words);
-        Region {
+        Span {
             start: from,
             end: to,
         }
     }
 
     // The same with words of its own.
-    fn region_by_own<const N: usize>(&self) -> Region
+    fn region_by_own<const N: usize>(&self) -> Span
         requires { 4 * N < 9223372036854775808 }
-        ensures { region_of result ≡ region_around self.now }
+        ensures { span_of result ≡ region_around self.now }
     {
         let mut own = [0u32; N];
         self.region_in(&mut own)
     }
 
     // Section 6. `balanced_region` of the edit.
-    pub fn balanced_region(&self, words: &mut [u32]) -> Region
-        ensures { region_of result ≡ region_around self.now }
+    pub fn balanced_region(&self, words: &mut [u32]) -> Span
+        ensures { span_of result ≡ region_around self.now }
     {
         let many = MANY_PAIRS < self.source.pairs.count;
         if many && words.len() < WIDE_WINDOW_WORDS {

@@ -9,7 +9,7 @@ use Rattle.std.specs.Int.Bits.{bit_and, bit_or, and_step, and_zero_r, or_step}
 use Rattle.std.proofs.lemmas.Nat.{or_shr}
 use Rattle.std.proofs.Math.Pow.{pow-lt}
 use borrow.Author.Tests.{lt-ltb, le-ltb, ltb-true, ltb-false, eq-eqb, eqb-true, eqb-false}
-use Rattle.laws.specs.Lists.{both}
+use Rattle.facts.specs.Truth.{both}
 
 -- where 32 bits of a hash have their word: in the share that they have of all 32 bits
 unfoldable pub hash_place : ℕ → ℕ → ℕ

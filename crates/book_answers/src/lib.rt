@@ -17,6 +17,8 @@ ghost use Rattle.lookup.specs.Strings.{str_if, str_shown};
 ghost use Rattle.copy.specs.Copying.{copied_of};
 ghost use Rattle.answers.specs.Answers.{allowed_answer, node_answer, range_answer, range_read, str_answer, str_read, copy_answer};
 
+use span::{SourceOffset, StrId};
+
 pub fn check_book(tape: &[u8], bytes: &[u8]) -> u32
     ensures { result ≡ number_of (check_book tape.now bytes.now) }
 {
@@ -38,14 +40,14 @@ pub fn diagnostics_allow_incremental(tape: &[u8], bytes: &[u8]) -> answers::Allo
 pub fn node_at_source(tape: &[u8], bytes: &[u8], offset: u32) -> answers::NodeAnswer
     ensures { result ≡ node_answer (ask_book tape.now bytes.now (λ b. found_of (node_at_source b.source_nodes offset))) }
 {
-    answers::NodeAnswer::from(lookup::node_at_source(tape, bytes, offset))
+    answers::NodeAnswer::from(lookup::node_at_source(tape, bytes, SourceOffset(offset)))
 }
 
 pub fn lookup_str(tape: &[u8], bytes: &[u8], id: u32) -> answers::StrAnswer
     ensures { (result ≡ str_answer (ask_book tape.now bytes.now (λ b. str_if (lookup_str_span b id))))
         × (str_shown bytes.now (str_read result) ≡ ask_book tape.now bytes.now (λ b. lookup_str b id)) }
 {
-    answers::StrAnswer::from(lookup::lookup_str(tape, bytes, id))
+    answers::StrAnswer::from(lookup::lookup_str(tape, bytes, StrId(id)))
 }
 
 pub fn lookup_contents(tape: &[u8], bytes: &[u8], start: u32, len: u32) -> answers::RangeAnswer

@@ -1,11 +1,9 @@
-// What a merge and its price are asked of, and what goes on from the checks to the writing.
+// What a merge and its price are asked of.
 #![tactic(auto)]
 
 ghost use Rattle.model.specs.Bytes.{AreBytes};
 
 use edit::Edit;
-use region::Book;
-use splice::Window;
 
 // A book or a reading as it is stored: its tape, and the bytes of its texts and strings.
 #[derive(Clone, Copy)]
@@ -33,14 +31,4 @@ impl<'a> Stored<'a> {
 pub struct Correction<'a> {
     pub edit: Edit<'a>,
     pub reading: Stored<'a>,
-}
-
-// A book, an edit, the window of its region, and a reading of that passage: what is merged once all of it has passed. That it has is the
-// fact `BooksOf` of crate fitting, which stands below this one, so no ghost field here can name it.
-#[derive(Clone, Copy)]
-pub struct Merging<'a> {
-    pub book: Book<'a>,
-    pub edit: Edit<'a>,
-    pub window: Window,
-    pub reading: Book<'a>,
 }

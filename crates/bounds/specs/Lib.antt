@@ -1,3 +1,3 @@
-pub mod Spans
+pub mod Incremental
 pub mod Walk
 pub mod Search

@@ -11,7 +11,7 @@ use Rattle.model.specs.Types.{SourceNode, LexOutput}
 use Rattle.model.specs.Tape.{record_at, records_at, node_codec}
 use Rattle.model.specs.WellFormed.{span_ok, ordered, offsets_ok}
 use Rattle.model.specs.Lookup.{node_at_source, last_of, ends_behind}
-use Rattle.laws.specs.Lists.{both}
+use Rattle.facts.specs.Truth.{both}
 use Rattle.laws.specs.Checks.{PlaceFacts}
 use Rattle.bounds.specs.Walk.{node_inside, nodes_in_place}
 

@@ -12,10 +12,8 @@ use Rattle.model.specs.Lists.{all}
 use Rattle.model.specs.Types.{SourceNode}
 use Rattle.model.specs.Tape.{record_at, records_at, node_codec}
 use Rattle.model.specs.WellFormed.{span_ok, ordered, standalone_padding, image_length, span_length, offsets_ok, images, spans}
-use Rattle.laws.specs.Lists.{both}
+use Rattle.facts.specs.Truth.{both, by_bool}
 use Rattle.records.specs.Runs.{run_cons, run_none}
-use Rattle.wire.specs.Loops.{by_bool}
-use Rattle.bounds.specs.Spans.{span_of}
 use Rattle.bounds.specs.declared.Sums.{Sums}
 
 -- ---- one node
@@ -50,7 +48,7 @@ node_placed size from images spans n =
 pub placed_parts : (size from im sp : ℕ) (n : SourceNode)
     → node_placed size from im sp n
     ≡ (leb from n.source_span.start
-    && (span_ok size (span_of n.source_span.start n.source_span.end) && in_image n.source_span.start n.normalized_offset (image_length n) im sp))
+    && (span_ok size n.source_span && in_image n.source_span.start n.normalized_offset (image_length n) im sp))
 unfolding node_placed
 placed_parts size from im sp n =
     and_swap (span_ok size n.source_span) (leb from n.source_span.start) (in_image n.source_span.start n.normalized_offset (image_length n) im sp)

@@ -11,70 +11,70 @@ ghost use Rattle.model.specs.Tape.{record_at, records_at, node_codec, pair_codec
 ghost use Rattle.model.specs.WellFormed.{span_ok, pair_ok, container_ok, diagnostic_ok, image_length, span_length};
 ghost use Rattle.model.specs.Lookup.{diagnostics_allow_incremental, node_at_source};
 ghost use Rattle.records.specs.Values.{pair_link_of, container_pair_of, diagnostic_of};
-ghost use Rattle.bounds.specs.Spans.{span_of, allows_incremental};
+ghost use Rattle.span.specs.Values.{span_of};
+ghost use Rattle.bounds.specs.Incremental.{allows_incremental};
 ghost use Rattle.bounds.specs.Walk.{padding_of, in_image, node_placed, sums_if_placed};
 ghost use Rattle.bounds.specs.Search.{start_of, Split, InOrder, found_of};
 
+use numbers::{CONTAINER_SIZE, DIAGNOSTIC_SIZE, NODE_SIZE, PAIR_SIZE};
 use records::{BLOCK_LEAF, INLINE, UNCLOSED_BRACKET};
+use span::{NormalizedOffset, SourceOffset, Span};
 
-// Not empty, and inside a text of `size` bytes.
+// Not empty, and inside a text that ends at `text`. A text's end is an offset of it, here and below.
 #[tactic(auto, using(std::proofs::lemmas::Bool::Decides::nat_tests), unfolding(model::specs::WellFormed::span_ok))]
-pub fn span_ok(start: u32, end: u32, size: usize) -> bool
-    ensures { result ≡ span_ok size (span_of start end) }
+fn span_ok(span: Span, text: SourceOffset) -> bool
+    ensures { result ≡ span_ok text.0 (span_of span) }
 {
-    start < end && end as usize <= size
+    span.start < span.end && span.end <= text
 }
 
 #[tactic(auto, using(std::proofs::lemmas::Bool::Decides::nat_tests), unfolding(model::specs::WellFormed::pair_ok))]
-pub fn pair_ok(p: records::PairLink, size: usize) -> bool
-    ensures { result ≡ pair_ok size (pair_link_of p) }
+fn pair_ok(p: records::PairLink, text: SourceOffset) -> bool
+    ensures { result ≡ pair_ok text.0 (pair_link_of p) }
 {
-    span_ok(p.open_start, p.open_end, size)
-        && span_ok(p.close_start, p.close_end, size)
-        && p.open_end <= p.close_start
+    span_ok(p.opening, text) && span_ok(p.closing, text) && p.opening.end <= p.closing.start
 }
 
 #[tactic(auto, using(std::proofs::lemmas::Bool::Decides::nat_tests), unfolding(model::specs::WellFormed::container_ok))]
-pub fn container_ok(c: records::ContainerPair, size: usize) -> bool
-    ensures { result ≡ container_ok size (container_pair_of c) }
+fn container_ok(c: records::ContainerPair, normalized: NormalizedOffset) -> bool
+    ensures { result ≡ container_ok normalized.0 (container_pair_of c) }
 {
-    c.opening < c.closing && (c.closing as usize) < size
+    c.opening < c.closing && c.closing < normalized
 }
 
 // Wish 5. A diagnostic may have no width, also at the text's end.
 #[tactic(auto, using(std::proofs::lemmas::Bool::Decides::nat_tests), unfolding(model::specs::WellFormed::diagnostic_ok))]
-pub fn diagnostic_ok(d: records::Diagnostic, size: usize) -> bool
-    ensures { result ≡ diagnostic_ok size (diagnostic_of d) }
+fn diagnostic_ok(d: records::Diagnostic, text: SourceOffset) -> bool
+    ensures { result ≡ diagnostic_ok text.0 (diagnostic_of d) }
 {
-    d.start <= d.end && d.end as usize <= size
+    d.span.start <= d.span.end && d.span.end <= text
 }
 
 // Each is one line over its kind of record, with a test of its own: a trait of the three would state each clause again.
-pub fn pairs_placed(tape: &[u8], pairs: places::Run, size: usize) -> bool
+pub fn pairs_placed(tape: &[u8], pairs: places::Run, text: SourceOffset) -> bool
     requires { pairs.at + 18 * pairs.count ≤ length tape.now }
-    ensures { result ≡ all (pair_ok size) (records_at pair_codec tape.now pairs.at pairs.count) }
+    ensures { result ≡ all (pair_ok text.0) (records_at pair_codec tape.now pairs.at pairs.count) }
 {
-    (0..pairs.count).all(|i| pair_ok(records::pair_at(tape, pairs.at + 18 * i), size))
+    (0..pairs.count).all(|i| pair_ok(records::pair_at(tape, pairs.at + PAIR_SIZE * i), text))
 }
 
-// `size` is the normalized text's length.
-pub fn containers_placed(tape: &[u8], containers: places::Run, size: usize) -> bool
+pub fn containers_placed(tape: &[u8], containers: places::Run, normalized: NormalizedOffset) -> bool
     requires { containers.at + 13 * containers.count ≤ length tape.now }
-    ensures { result ≡ all (container_ok size) (records_at container_codec tape.now containers.at containers.count) }
+    ensures { result ≡ all (container_ok normalized.0) (records_at container_codec tape.now containers.at containers.count) }
 {
     (0..containers.count).all(|i| container_ok(
-        records::container_at(tape, containers.at + 13 * i),
-        size,
+        records::container_at(tape, containers.at + CONTAINER_SIZE * i),
+        normalized,
     ))
 }
 
-pub fn diagnostics_placed(tape: &[u8], diagnostics: places::Run, size: usize) -> bool
+pub fn diagnostics_placed(tape: &[u8], diagnostics: places::Run, text: SourceOffset) -> bool
     requires { diagnostics.at + 18 * diagnostics.count ≤ length tape.now }
-    ensures { result ≡ all (diagnostic_ok size) (records_at diagnostic_codec tape.now diagnostics.at diagnostics.count) }
+    ensures { result ≡ all (diagnostic_ok text.0) (records_at diagnostic_codec tape.now diagnostics.at diagnostics.count) }
 {
     (0..diagnostics.count).all(|i| diagnostic_ok(
-        records::diagnostic_at(tape, diagnostics.at + 18 * i),
-        size,
+        records::diagnostic_at(tape, diagnostics.at + DIAGNOSTIC_SIZE * i),
+        text,
     ))
 }
 
@@ -83,7 +83,8 @@ pub fn diagnostics_allow_incremental(tape: &[u8], diagnostics: places::Run) -> b
     requires { diagnostics.at + 18 * diagnostics.count ≤ length tape.now }
     ensures { result ≡ diagnostics_allow_incremental (records_at diagnostic_codec tape.now diagnostics.at diagnostics.count) }
 {
-    (0..diagnostics.count).all(|i| tape[diagnostics.at + 18 * i + 1] < UNCLOSED_BRACKET)
+    (0..diagnostics.count).all(|i| tape[diagnostics.at + DIAGNOSTIC_SIZE * i + 1]
+        < UNCLOSED_BRACKET)
 }
 
 // Section 4. `standalone_padding`. Whether a block is inline is a byte of the tape, 0 or 1.
@@ -112,32 +113,48 @@ pub fn span_length(tape: &[u8], at: usize) -> u64
 {
     let start = records::node_start(tape, at);
     let end = records::node_end(tape, at);
-    u64::from(end.saturating_sub(start))
+    u64::from(end.0.saturating_sub(start.0))
 }
 
 // Section 4. The normalized offset lies in the image; the spans stand on the other side, so that no number is signed.
 #[tactic(auto, using(std::proofs::lemmas::Bool::Decides::nat_tests), unfolding(crate::specs::Walk::in_image))]
-fn in_image(start: u32, offset: u32, image: u64, images: u64, spans: u64) -> bool
+fn in_image(
+    start: SourceOffset,
+    offset: NormalizedOffset,
+    image: u64,
+    images: u64,
+    spans: u64,
+) -> bool
     requires { (image ≤ 7) × (images < 4611686018427387904) × (spans < 4294967296) }
-    ensures { result ≡ in_image start offset image images spans }
+    ensures { result ≡ in_image start.0 offset.0 image images spans }
 {
-    let place = u64::from(offset) + spans;
-    let begin = u64::from(start) + images;
+    let place = u64::from(offset.0) + spans;
+    let begin = u64::from(start.0) + images;
     begin <= place && place < begin + image
 }
 
 // Number 6 of one node: `from` is the end of the node before, `images` and `spans` are the sums of the nodes before: two numbers that the walk steps,
 // of which `Sums` are made once, at its end.
 #[tactic(auto, using(std::proofs::lemmas::Bool::Decides::nat_tests, crate::specs::Walk::placed_parts))]
-fn node_placed(tape: &[u8], at: usize, size: usize, from: u32, images: u64, spans: u64) -> bool
+fn node_placed(
+    tape: &[u8],
+    at: usize,
+    text: SourceOffset,
+    from: SourceOffset,
+    images: u64,
+    spans: u64,
+) -> bool
     requires { (at + 49 ≤ length tape.now) × (images < 4611686018427387904) × (spans < 4294967296) }
-    ensures { result ≡ node_placed size from images spans (record_at node_codec tape.now at) }
+    ensures { result ≡ node_placed text.0 from.0 images spans (record_at node_codec tape.now at) }
 {
-    let start = records::node_start(tape, at);
-    from <= start
-        && span_ok(start, records::node_end(tape, at), size)
+    let span = Span {
+        start: records::node_start(tape, at),
+        end: records::node_end(tape, at),
+    };
+    from <= span.start
+        && span_ok(span, text)
         && in_image(
-            start,
+            span.start,
             records::node_offset(tape, at),
             image_length(tape, at),
             images,
@@ -153,16 +170,16 @@ pub struct Sums {
 }
 
 // The sums, where each node is placed as number 6 asks.
-pub fn nodes_placed(tape: &[u8], nodes: places::Run, size: usize) -> Option<Sums>
+pub fn nodes_placed(tape: &[u8], nodes: places::Run, text: SourceOffset) -> Option<Sums>
     requires { nodes.at + 49 * nodes.count ≤ length tape.now }
-    ensures { result ≡ sums_if_placed size (records_at node_codec tape.now nodes.at nodes.count) }
+    ensures { result ≡ sums_if_placed text.0 (records_at node_codec tape.now nodes.at nodes.count) }
 {
-    let mut from: u32 = 0;
+    let mut from = SourceOffset(0);
     let mut images: u64 = 0;
     let mut spans: u64 = 0;
     for i in 0..nodes.count {
-        let p = nodes.at + 49 * i;
-        if !node_placed(tape, p, size, from, images, spans) {
+        let p = nodes.at + NODE_SIZE * i;
+        if !node_placed(tape, p, text, from, images, spans) {
             return None;
         }
         images += image_length(tape, p);
@@ -175,16 +192,16 @@ pub fn nodes_placed(tape: &[u8], nodes: places::Run, size: usize) -> Option<Sums
 // How many nodes start at or before an offset. By hand: `partition_point` takes a slice, and the nodes are records among bytes.
 // (The bisections of `sorted_ids`, `representatives` and `interner` are by hand for reasons of their own. One for all four would take the test as a
 // closure and tell of two words only, the last that passes and the next: each caller would still need its order, to say it of all.)
-fn starts_by(tape: &[u8], nodes: places::Run, offset: u32) -> usize
+fn starts_by(tape: &[u8], nodes: places::Run, offset: SourceOffset) -> usize
     requires count_in_bounds { nodes.at + 49 * nodes.count ≤ length tape.now }
     requires in_order { InOrder (records_at node_codec tape.now nodes.at nodes.count) }
-    ensures { Split (start_of tape.now nodes.at) nodes.count offset result result }
+    ensures { Split (start_of tape.now nodes.at) nodes.count offset.0 result result }
 {
     let mut lo = 0;
     let mut hi = nodes.count;
     while lo < hi {
         let mid = lo + (hi - lo) / 2;
-        if records::node_start(tape, nodes.at + 49 * mid) <= offset {
+        if records::node_start(tape, nodes.at + NODE_SIZE * mid) <= offset {
             lo = mid + 1;
         } else {
             hi = mid;
@@ -194,13 +211,13 @@ fn starts_by(tape: &[u8], nodes: places::Run, offset: u32) -> usize
 }
 
 // The place among the nodes of the last that starts at or before an offset, if the offset lies before its end.
-pub fn node_at_source(tape: &[u8], nodes: places::Run, offset: u32) -> Option<usize>
+pub fn node_at_source(tape: &[u8], nodes: places::Run, offset: SourceOffset) -> Option<usize>
     requires count_in_bounds { nodes.at + 49 * nodes.count ≤ length tape.now }
     requires in_order { InOrder (records_at node_codec tape.now nodes.at nodes.count) }
-    ensures { result ≡ found_of (node_at_source (records_at node_codec tape.now nodes.at nodes.count) offset) }
+    ensures { result ≡ found_of (node_at_source (records_at node_codec tape.now nodes.at nodes.count) offset.0) }
 {
     let i = starts_by(tape, nodes, offset).checked_sub(1)?;
-    if offset < records::node_end(tape, nodes.at + 49 * i) {
+    if offset < records::node_end(tape, nodes.at + NODE_SIZE * i) {
         Some(i)
     } else {
         None

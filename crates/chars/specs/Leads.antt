@@ -5,7 +5,7 @@ use Rattle.std.proofs.Common.{ap, arith}
 use Rattle.std.proofs.Math.Bool.{and-false}
 use borrow.Author.Tests.{le-leb, lt-leb, ne_eqb, eqb-true, eqb-false, leb-false}
 use Rattle.model.specs.Utf8.{between, tail1, tail2, tail3, after_e0, after_ed, after_f0, after_f4, bad, utf8_first}
-use Rattle.wire.specs.Loops.{by_bool}
+use Rattle.facts.specs.Truth.{by_bool}
 use Rattle.chars.specs.Chars.{asks}
 
 module _ (a : ℕ) where

@@ -12,7 +12,7 @@ use Rattle.model.specs.Graft.{layer_of}
 use Rattle.model.specs.Region.{Edit, edited, balanced_region}
 use Rattle.model.specs.Merge.{IncrementalOutput, window_of, grafted, merged_layers, merged_book, answer}
 use Rattle.model.specs.Demand3.{shown, KeptReferences, moved_behind, region_behind, Demand3}
-use Rattle.laws.specs.Lists.{same_refl}
+use Rattle.facts.specs.Lists.{same_refl}
 use Rattle.laws.specs.Checks.{checked_book, checked_reading, Chosen, chosen_facts, merge_accepted, merged_of}
 use Rattle.laws.specs.ReadFits.{read_fits_lem}
 use Rattle.laws.proofs.Kept.{kept_references}

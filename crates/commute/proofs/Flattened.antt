@@ -12,7 +12,7 @@ use Rattle.model.specs.Graft.{layered, layer_of, With, graft_node_refs}
 use Rattle.model.specs.Merge.{Stored, Room, stored_book, result_ok}
 use Rattle.model.specs.Demand3.{Shown, shown, Correction, StoredBytes, BothOrders, Commutes}
 use Rattle.model.specs.Flatten.{flat_graft, flat_book, flat_checked, flatten_book, Flattened}
-use Rattle.laws.specs.Keep.{all_map_is}
+use Rattle.facts.specs.Keep.{all_map_is}
 use Rattle.laws.specs.Layers.{numbered_with}
 use Rattle.laws.specs.Checks.{refuse_accepted, same_accepted, WellFormed, checked_book, checked_again, utf8_facts, LimitFacts, place_facts}
 use Rattle.laws.specs.Result.{within_limits_lem, result_facts}

@@ -6,7 +6,7 @@ use Rattle.model.specs.Types.{LexOutput, RegionOutput}
 use Rattle.model.specs.Region.{Edit}
 use Rattle.model.specs.Merge.{window_of, node_located, pair_located, container_located, diagnostic_located, mark_at_empty_region}
 use Rattle.model.specs.Once.{KeptOnce, CountedOnce}
-use Rattle.laws.specs.Lists.{same_eq}
+use Rattle.facts.specs.Lists.{same_eq}
 use Rattle.laws.specs.Checks.{checked_book, checked_reading, chosen_facts, fitted_accepted}
 use Rattle.laws.specs.Located.{kept_once, wide_once}
 use Rattle.laws.specs.Marks.{unmarked_sides}

@@ -18,8 +18,8 @@ use Rattle.model.specs.Region.{Edit, edited, behind_edit}
 use Rattle.model.specs.Merge.{MergeWindow, IncrementalOutput, change_in_length, window_of, normalized_offset, moved_offset, kept_before, kept_behind, spliced, shifted_pair, pair_located, container_located, shifted_diagnostic, diagnostic_located, not_behind, sort_diagnostics, merged_normalized, merged_book}
 use Rattle.model.specs.Once.{on_both_sides}
 use Rattle.model.specs.Demand3.{moved_behind, region_behind}
-use Rattle.laws.specs.Lists.{both, all_and}
-use Rattle.laws.specs.Keep.{all_map_is, all_if}
+use Rattle.facts.specs.Truth.{both}
+use Rattle.facts.specs.Keep.{all_and, all_map_is, all_if}
 use Rattle.laws.specs.Checks.{merged_of}
 use Rattle.laws.specs.Splice.{splice_comm}
 use Rattle.laws.specs.Sort.{sort_first, all_sort_is, not_behind_moved}

@@ -19,7 +19,8 @@ use Rattle.model.specs.WellFormed.{texts_are_utf8, node_ok, ids_ok, levels_ok, c
 use Rattle.model.specs.Graft.{layer_of}
 use Rattle.model.specs.Region.{Edit, edited}
 use Rattle.model.specs.Merge.{MergeWindow, IncrementalOutput, window_of, moved_offset, cuts_ok, spliced, node_located, shifted_pair, pair_located, container_located, shifted_diagnostic, diagnostic_located, merged_normalized, grafted, merged_layers, merged_book, stored_book, answer}
-use Rattle.laws.specs.Lists.{both, all_and}
+use Rattle.facts.specs.Truth.{both}
+use Rattle.facts.specs.Keep.{all_and}
 use Rattle.laws.specs.Checks.{WellFormed, checked_again, utf8_facts, id_facts, merged_of}
 use Rattle.laws.specs.Fits.{is_word, operands_fit, record_fits, fits}
 use Rattle.laws.specs.WriteRead.{BookFits, book_fits, fits_book, write_read}

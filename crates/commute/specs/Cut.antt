@@ -12,7 +12,7 @@ use Rattle.std.proofs.Math.Dec.{leb}
 use borrow.Author.Tests.{leb-true, leb-false, ltb-true, ltb-false, eqb-true, eqb-false, le-leb, eq-eqb, ne_eqb}
 use Rattle.model.specs.Types.{LexOutput}
 use Rattle.model.specs.Region.{Edit, edited, behind_edit, newline_at, nodes_allow_cut, pairs_allow_cut, blank_line_before, safe_cut, region_start, end_cut, region_end}
-use Rattle.laws.specs.Lists.{both}
+use Rattle.facts.specs.Truth.{both}
 use Rattle.laws.specs.Splice.{splice, byte_front, byte_inner, byte_rest}
 
 -- what section 6 asks of an offset inside a text

@@ -16,11 +16,12 @@ use Rattle.model.specs.Tree.{show_with, shown_node, shown_nodes}
 use Rattle.model.specs.Graft.{NewLayer, layered, layer_of, With, graft_node_refs}
 use Rattle.model.specs.Region.{Edit}
 use Rattle.model.specs.Merge.{grafted, merged_layers, merged_book}
-use Rattle.laws.specs.Lists.{both, join, all_append, all_and, all_map}
+use Rattle.facts.specs.Truth.{both, join}
+use Rattle.facts.specs.Keep.{all_append, all_and, all_map}
 use Rattle.laws.specs.Checks.{WellFormed, utf8_facts, LimitFacts, id_facts, merged_of}
 use Rattle.laws.specs.Fits.{is_word, record_fits, layer_fits, fits}
 use Rattle.laws.specs.WriteRead.{layer_fits_lem, book_fits}
-use Rattle.laws.specs.Graft.{good_string, inner, show_body_lem, level_from, level_shown, with_layer, later_refl, Numbered, Pools, good_content, good_segment}
+use Rattle.laws.specs.Graft.{good_string, inner, show_body_lem, level_from, level_shown, with_layer, later_refl, Numbered, Pools, good_content, content_facts, good_segment, segment_facts}
 use Rattle.laws.specs.Levels.{good, nodes_grafted}
 use Rattle.laws.specs.Layers.{pool_all, More, more_layers, show_same, show_node_same, pool_ids, content_more, segment_more, node_more, fresh_above, store_with, numbered_with}
 
@@ -125,31 +126,28 @@ module _ {old : List Layer} (o : GoodLayers old) (g : NewLayer) (numbered : Numb
   new_fits =
       rw (
         all_map good_string (λ (s : List ℕ). is_word (length s)) (λ s e. (both (is_word (length s)) (utf8 s) e).0) g.interner.strings pools.strings,
-        all_map gc (record_fits content_codec) (λ c e. (both (record_fits content_codec c) _ e).0) g.contents pools.contents,
-        all_map gs (record_fits segment_codec) (λ s e. (both (record_fits segment_codec s) _ e).0) g.segments pools.segments,
+        all_map gc (record_fits content_codec) (λ c e. (content_facts numbered c e).fits) g.contents pools.contents,
+        all_map gs (record_fits segment_codec) (λ s e. (segment_facts numbered s e).fits) g.segments pools.segments,
       )
 
   new_shape : layer_shape (layer_of g) ≡ true
   unfolding layer_shape layer_of
   new_shape =
       rw (
-        all_map gc content_shape (λ c e. (both (content_shape c) (content_ok new c) (both (record_fits content_codec c) (content_shape c && content_ok new c) e).1).0) g.contents pools.contents,
-        all_map gs segment_shape (λ s e. (both (segment_shape s) (level_ok st s && segment_ok new s) (both (record_fits segment_codec s) (segment_shape s && (level_ok st s && segment_ok new s)) e).1).0) g.segments pools.segments,
+        all_map gc content_shape (λ c e. (content_facts numbered c e).shape) g.contents pools.contents,
+        all_map gs segment_shape (λ s e. (segment_facts numbered s e).shape) g.segments pools.segments,
       )
 
   new_utf8 : layer_utf8 (layer_of g) ≡ true
   unfolding layer_of
   new_utf8 = all_map good_string utf8 (λ s e. (both (is_word (length s)) (utf8 s) e).1) g.interner.strings pools.strings
 
-  segment_last : (s : Segment) → gs s ≡ true → (level_ok st s ≡ true) × (segment_ok new s ≡ true)
-  segment_last s e = both (level_ok st s) (segment_ok new s) (both (segment_shape s) (level_ok st s && segment_ok new s) (both (record_fits segment_codec s) (segment_shape s && (level_ok st s && segment_ok new s)) e).1).1
-
   new_ids : layer_ids new (layer_of g) ≡ true
   unfolding layer_of
   new_ids =
       rw (
-        all_map gc (content_ok new) (λ c e. (both (content_shape c) (content_ok new c) (both (record_fits content_codec c) (content_shape c && content_ok new c) e).1).1) g.contents pools.contents,
-        all_map gs (segment_ok new) (λ s e. (segment_last s e).1) g.segments pools.segments,
+        all_map gc (content_ok new) (λ c e. (content_facts numbered c e).ids) g.contents pools.contents,
+        all_map gs (segment_ok new) (λ s e. (segment_facts numbered s e).ids) g.segments pools.segments,
       )
 
   old_ids : all (layer_ids new) old ≡ true
@@ -166,7 +164,7 @@ module _ {old : List Layer} (o : GoodLayers old) (g : NewLayer) (numbered : Numb
       let r = store_of old in
       all_append (level_ok st) r.segments g.segments
       (all_map (λ s. segment_ok old s && level_ok r s) (level_ok st) old_level r.segments (all_and (segment_ok old) (level_ok r) r.segments (pool_ids old o.ids).1 o.levels))
-      (all_map gs (level_ok st) (λ s e. (segment_last s e).0) g.segments pools.segments)
+      (all_map gs (level_ok st) (λ s e. (segment_facts numbered s e).level) g.segments pools.segments)
 
   layer_above : GoodLayers new
   layer_above = record {

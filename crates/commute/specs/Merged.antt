@@ -18,8 +18,8 @@ use Rattle.model.specs.Types.{SourceNode, PairLink, LexOutput, RegionOutput}
 use Rattle.model.specs.WellFormed.{pair_ok, container_ok, diagnostic_ok}
 use Rattle.model.specs.Region.{Edit, edited, behind_edit, depth, is_block_open, is_block_close, is_warichu_open, is_warichu_close, nodes_before, nodes_allow_cut, pairs_allow_cut}
 use Rattle.model.specs.Merge.{MergeWindow, change_in_length, window_of, normalized_offset, moved_offset, Located, kept_before, kept_behind, spliced, node_located, shifted_pair, pair_located, container_located, shifted_diagnostic, diagnostic_located, balanced_nodes, grafted, merged_book}
-use Rattle.laws.specs.Lists.{both}
-use Rattle.laws.specs.Keep.{keep_append, keep_all, all_kept, any_all, same_le}
+use Rattle.facts.specs.Truth.{both, same_le}
+use Rattle.facts.specs.Keep.{keep_append, keep_all, all_kept, any_all}
 use Rattle.laws.specs.Checks.{merged_of}
 use Rattle.laws.specs.Shift.{shift_up, shift_by, offset_by, shift_answers}
 use Rattle.laws.specs.Splice.{splice_length, byte_front, byte_rest}

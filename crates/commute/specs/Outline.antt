@@ -10,8 +10,8 @@ use Rattle.model.specs.Tree.{show_with, show_node, shown_node, shown_nodes}
 use Rattle.model.specs.Graft.{NewLayer, layered, graft_node, graft_node_ref, graft_node_refs}
 use Rattle.model.specs.Region.{depth, is_block_open, is_block_close, is_warichu_open, is_warichu_close}
 use Rattle.model.specs.Merge.{balanced_from, balanced_nodes, grafted}
-use Rattle.laws.specs.Lists.{both}
-use Rattle.laws.specs.Keep.{all_map_is, all_true}
+use Rattle.facts.specs.Truth.{both}
+use Rattle.facts.specs.Keep.{all_map_is, all_true}
 use Rattle.laws.specs.Nodes.{Sound, node_in, offsets_small, offset_test, images_map, spans_map, depth_map, balanced_depth}
 
 abbrev pub outline : SourceNode → SourceNode

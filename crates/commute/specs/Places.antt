@@ -14,8 +14,8 @@ use Rattle.model.specs.Types.{SourceNode, PairLink, ContainerPair, LexOutput, Re
 use Rattle.model.specs.WellFormed.{ordered, offsets_ok, standalone_padding, image_length, pair_ok, container_ok, diagnostic_ok, places_ok, images, spans, normalized_length_ok}
 use Rattle.model.specs.Region.{Edit}
 use Rattle.model.specs.Merge.{MergeWindow, window_of, normalized_offset, kept_before, kept_behind, spliced, node_located, shifted_pair, pair_located, container_located, diagnostic_located, merged_normalized, grafted, merged_book}
-use Rattle.laws.specs.Lists.{both, join, all_and, all_keep, all_map}
-use Rattle.laws.specs.Keep.{all_keep_self, all_map_is, all_true, same_le}
+use Rattle.facts.specs.Truth.{both, join, same_le}
+use Rattle.facts.specs.Keep.{all_and, all_keep, all_map, all_keep_self, all_map_is, all_true}
 use Rattle.laws.specs.Checks.{merged_of}
 use Rattle.laws.specs.Splice.{splice_length}
 use Rattle.laws.specs.Sort.{all_sort_is}

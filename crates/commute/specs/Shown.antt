@@ -10,8 +10,8 @@ use Rattle.model.specs.WellFormed.{node_ok}
 use Rattle.model.specs.Tree.{ShownNode, show_node, shown_node, shown_nodes}
 use Rattle.model.specs.Region.{Edit}
 use Rattle.model.specs.Merge.{IncrementalOutput, window_of, moved_offset, Located, kept_before, kept_behind, spliced, node_located, grafted, merged_book}
-use Rattle.laws.specs.Lists.{all_keep, map_append}
-use Rattle.laws.specs.Keep.{keep_map, map_map, map_same}
+use Rattle.facts.specs.Lists.{map_append, map_map}
+use Rattle.facts.specs.Keep.{all_keep, keep_map, map_same}
 use Rattle.laws.specs.Checks.{id_facts, merged_of}
 use Rattle.laws.specs.Located.{is_before, is_behind}
 use Rattle.commute.specs.Grown.{grown}

@@ -2,7 +2,7 @@
 use Rattle.std.specs.Prelude.{ℕ, suc, ◌≡◌, false, List, [], ◌∷◌, length, eqb}
 use Rattle.std.proofs.Math.Path.{refl, ap}
 use Rattle.model.specs.Lists.{same}
-use Rattle.wire.specs.Loops.{by_bool}
+use Rattle.facts.specs.Truth.{by_bool}
 
 pub same_length : (a b : List ℕ) → (length a ≡ length b → ⊥) → same a b ≡ false
 same_length [] [] h = absurd (h refl)

@@ -8,7 +8,7 @@ use Rattle.std.proofs.Common.{refl, sym, ◌∙◌, arith, true≢false, lt-ltb,
 use Rattle.std.proofs.lemmas.Bool.{false≢true, eqb-false}
 use Rattle.std.proofs.lemmas.Cmp.{ranked, same_from_slice_cmp}
 use Rattle.model.specs.Lists.{same}
-use Rattle.wire.specs.Loops.{by_bool}
+use Rattle.facts.specs.Truth.{by_bool}
 
 unfoldable pub precedes : List ℕ → List ℕ → Bool
 precedes [] [] = false

@@ -11,8 +11,8 @@ use Rattle.model.specs.Tape.{places, book_at}
 use Rattle.model.specs.WellFormed.{check_book}
 use Rattle.model.specs.Merge.{Stored, stored_of, Room, stored_book, fits_room, padded}
 use Rattle.model.specs.Lookup.{copy_book, copy_into, copied_tape, copied_bytes}
+use Rattle.facts.specs.Truth.{by_bool}
 use Rattle.laws.specs.RoundTrip.{read_write}
-use Rattle.wire.specs.Loops.{by_bool}
 use Rattle.wire.specs.Overwrite.{overwrite, overwrite_all}
 use Rattle.tape.specs.Accepted.{Accepted, refusal_of, accepted_book}
 use Rattle.refusal.specs.Refusal.{checked_map, was_refused, was_accepted}

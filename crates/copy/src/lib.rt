@@ -20,7 +20,7 @@ pub struct Copied {
 fn check_copy(tape: &[u8], bytes: &[u8], tape_room: usize, bytes_room: usize) -> Result<(), Refusal>
     ensures { checked result ≡ checked_map (λ _. tt) (copy_into tape.now bytes.now tape_room bytes_room) }
 {
-    tape::check_book(tape, bytes)?;
+    tape::open_book(tape, bytes)?;
     if tape_room < tape.len() {
         return Err(Refusal::NoRoom);
     }

@@ -6,8 +6,7 @@ use Rattle.std.proofs.Math.Bool.{and-false}
 use borrow.Author.Tests.{eqb-true}
 use Rattle.model.specs.Types.{SourceNode}
 use Rattle.model.specs.Region.{is_block_open, is_block_close, is_warichu_open, is_warichu_close, depth_behind}
-use Rattle.laws.specs.Lists.{both}
-use Rattle.wire.specs.Loops.{by_bool}
+use Rattle.facts.specs.Truth.{both, by_bool}
 use Rattle.cuts.specs.declared.Effect.{Effect}
 use Rattle.cuts.specs.declared.Effect.TheVariants.{Opens, Closes, Neither}
 use Rattle.cuts.specs.Gaps.{closes_nothing}

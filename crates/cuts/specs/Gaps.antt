@@ -10,10 +10,9 @@ use Rattle.model.specs.Types.{SourceNode, LexOutput}
 use Rattle.model.specs.Tape.{record_at, records_at, node_codec}
 use Rattle.model.specs.WellFormed.{span_ok, ordered, offsets_ok}
 use Rattle.model.specs.Region.{across, is_block_open, is_block_close, is_warichu_open, is_warichu_close, depth_behind, depth, nodes_before, nodes_allow_cut}
-use Rattle.laws.specs.Lists.{both, join}
+use Rattle.facts.specs.Truth.{both, join, by_bool}
 use Rattle.laws.specs.Checks.{PlaceFacts}
 use Rattle.records.specs.Runs.{run_cons, run_none}
-use Rattle.wire.specs.Loops.{by_bool}
 use Rattle.bounds.specs.Walk.{node_inside, nodes_in_place}
 use Rattle.bounds.specs.Search.{InOrder}
 use Rattle.places.specs.declared.Run.{Run}

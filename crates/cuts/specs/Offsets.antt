@@ -7,7 +7,7 @@ use Rattle.std.proofs.Common.{⊎_elim}
 use Rattle.std.proofs.Math.Path.{refl, sym}
 use Rattle.std.proofs.Math.Bool.{true, false}
 use borrow.Author.Tests.{ltb-true, ltb-false, eqb-true, eqb-false}
-use Rattle.wire.specs.Loops.{by_bool}
+use Rattle.facts.specs.Truth.{by_bool}
 
 -- of the n offsets before hi the first that passes, else hi
 unfoldable pub first_in : (ℕ → Bool) → ℕ → ℕ → ℕ

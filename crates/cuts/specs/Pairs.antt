@@ -8,8 +8,8 @@ use Rattle.std.proofs.lemmas.Bool.{lt-leb}
 use Rattle.model.specs.Types.{PairLink}
 use Rattle.model.specs.Tape.{record_at, records_at, pair_codec}
 use Rattle.model.specs.Region.{pairs_allow_cut}
+use Rattle.facts.specs.Truth.{by_bool}
 use Rattle.records.specs.Runs.{run_cons, run_none}
-use Rattle.wire.specs.Loops.{by_bool}
 use Rattle.places.specs.declared.Run.{Run}
 use Rattle.cuts.specs.Offsets.{Refused}
 

@@ -7,7 +7,7 @@ use Rattle.std.proofs.Math.Bool.{and-false, true≢false}
 use borrow.Author.Tests.{ne_eqb}
 use Rattle.model.specs.Types.{SourceNode, PairLink, LexOutput}
 use Rattle.model.specs.Region.{newline_at, blank_line_before, nodes_allow_cut, pairs_allow_cut, safe_cut}
-use Rattle.wire.specs.Loops.{by_bool}
+use Rattle.facts.specs.Truth.{by_bool}
 
 -- Section 6. Two newline bytes before it, no node across, both depths 0, no pair across.
 unfoldable pub cut_allowed : List ℕ → List SourceNode → List PairLink → ℕ → Bool

@@ -9,7 +9,7 @@ use borrow.Author.Tests.{lt-ltb, le-ltb, ltb-true, ltb-false, leb-false, le-leb,
 use Rattle.model.specs.Bytes.{zeros}
 use Rattle.model.specs.Types.{PairLink}
 use Rattle.model.specs.Tape.{record_at, pair_codec}
-use Rattle.wire.specs.Loops.{by_bool}
+use Rattle.facts.specs.Truth.{by_bool}
 use Rattle.places.specs.declared.Run.{Run}
 use Rattle.cuts.specs.Pairs.{reach, reach_of, pairs_from, pairs_none, pairs_more}
 

@@ -3,6 +3,7 @@
 #![tactic(auto)]
 
 ghost use Rattle.std.specs.Prelude.{◌≡◌, SomeIff, ◌+◌, ◌-◌, ◌*◌, ◌≤◌, ◌<◌, max, min, List, length, get_or, set};
+ghost use Rattle.model.specs.Limits.{max_text};
 ghost use Rattle.model.specs.Types.{PairLink};
 ghost use Rattle.model.specs.Tape.{record_at, node_codec, pair_codec};
 ghost use Rattle.model.specs.Region.{blank_line_before, is_block_open, is_block_close, is_warichu_open, is_warichu_close, depth_behind};
@@ -13,7 +14,9 @@ ghost use Rattle.cuts.specs.Window.{noted, Noted, Risen, Reaches, Window, next_s
 ghost use Rattle.cuts.specs.Depths.{effect_of, behind, before, is_unopened, closes_unopened};
 ghost use Rattle.cuts.specs.Gaps.{NodesApart, depths_zero, nodes_of};
 
+use numbers::{NODE_SIZE, PAIR_SIZE};
 use records::{BLOCK_CLOSE, BLOCK_OPEN, DIRECTIVE};
+use span::SourceOffset;
 
 // A book's text, and the records of its tape that lie over it: nodes, one behind the other, and pairs.
 #[derive(Clone, Copy)]
@@ -25,14 +28,16 @@ pub struct Source<'a> {
     pub ghost nodes_inside: { nodes.at + 49 * nodes.count ≤ length tape.now },
     pub ghost pairs_inside: { pairs.at + 18 * pairs.count ≤ length tape.now },
     pub ghost nodes_apart: { NodesApart (nodes_of tape.now nodes) },
+    pub ghost text_small: { length text.now ≤ max_text },
 }
 
 // Section 6. Two newline bytes before an offset.
 #[tactic(auto, using(std::proofs::lemmas::Bool::Decides::nat_tests), unfolding(model::specs::Region::blank_line_before))]
-pub fn blank_line_before(text: &[u8], o: usize) -> bool
-    requires { o ≤ length text.now }
-    ensures { result ≡ blank_line_before text.now o }
+pub fn blank_line_before(text: &[u8], o: SourceOffset) -> bool
+    requires { o.0 ≤ length text.now }
+    ensures { result ≡ blank_line_before text.now o.0 }
 {
+    let o = o.0 as usize;
     2 <= o && text[o - 2] == b'\n' && text[o - 1] == b'\n'
 }
 
@@ -172,43 +177,43 @@ impl Depths {
 }
 
 // Single fields of a pair, as those of a node in crate `records`.
-fn pair_start(tape: &[u8], at: usize) -> u32
+fn pair_start(tape: &[u8], at: usize) -> SourceOffset
     requires { at + 18 ≤ length tape.now }
-    ensures { result ≡ (record_at pair_codec tape.now at).opening.start }
+    ensures { result.0 ≡ (record_at pair_codec tape.now at).opening.start }
 {
-    wire::u32_at(tape, at + 2)
+    SourceOffset(wire::u32_at(tape, at + 2))
 }
 
-fn pair_end(tape: &[u8], at: usize) -> u32
+fn pair_end(tape: &[u8], at: usize) -> SourceOffset
     requires { at + 18 ≤ length tape.now }
-    ensures { result ≡ (record_at pair_codec tape.now at).closing.end }
+    ensures { result.0 ≡ (record_at pair_codec tape.now at).closing.end }
 {
-    wire::u32_at(tape, at + 14)
+    SourceOffset(wire::u32_at(tape, at + 14))
 }
 
 // What a pair adds to the reach at an offset: its end, if it starts before.
-fn reach_of(start: u32, end: u32, o: usize) -> u32
-    ensures { result ≡ reach_of start end o }
+fn reach_of(start: SourceOffset, end: SourceOffset, o: SourceOffset) -> SourceOffset
+    ensures { result.0 ≡ reach_of start.0 end.0 o.0 }
 {
-    if (start as usize) < o { end } else { 0 }
+    if start < o { end } else { SourceOffset(0) }
 }
 
 // The reach at many offsets: one walk over the pairs fills a window. Word 0 has its first offset, word 1 how many offsets it has,
 // the words behind them the reach at each. An offset outside of it asks for a new one, sixteen times as large as far as there are words.
 
 // The number of the first offset of a window that lies behind a start.
-fn slot_of(from: u32, start: u32) -> usize
-    ensures { result ≡ start + 1 - from }
+fn slot_of(from: SourceOffset, start: SourceOffset) -> usize
+    ensures { result ≡ start.0 + 1 - from.0 }
 {
-    (start as usize + 1).saturating_sub(from as usize)
+    (start.0 as usize + 1).saturating_sub(from.0 as usize)
 }
 
-fn note(slots: &mut [u32], from: u32, start: u32, end: u32)
-    ensures { slots.new ≡ noted slots.old from start end }
+fn note(slots: &mut [u32], from: SourceOffset, start: SourceOffset, end: SourceOffset)
+    ensures { slots.new ≡ noted slots.old from.0 start.0 end.0 }
 {
     let k = slot_of(from, start);
     if k < slots.len() {
-        slots[k] = slots[k].max(end);
+        slots[k] = slots[k].max(end.0);
     }
 }
 
@@ -223,11 +228,11 @@ fn run_up(slots: &mut [u32])
     }
 }
 
-fn put_bounds(words: &mut [u32], from: u32, size: u32)
+fn put_bounds(words: &mut [u32], from: SourceOffset, size: u32)
     requires { 2 ≤ length words.old }
-    ensures { words.new ≡ set (set words.old 0 from) 1 size }
+    ensures { words.new ≡ set (set words.old 0 from.0) 1 size }
 {
-    words[0] = from;
+    words[0] = from.0;
     words[1] = size;
 }
 
@@ -243,11 +248,11 @@ fn next_size(room: usize, size: u32) -> usize
 }
 
 // Which word has the reach at an offset, if one has.
-fn reach_word(from: u32, size: u32, o: usize) -> Option<usize>
-    ensures { SomeIff result ((from ≤ o) × (o - from < size)) (2 + (o - from)) }
+fn reach_word(from: SourceOffset, size: u32, o: SourceOffset) -> Option<usize>
+    ensures { SomeIff result ((from.0 ≤ o.0) × (o.0 - from.0 < size)) (2 + (o.0 - from.0)) }
 {
-    let k = o.checked_sub(from as usize)?;
-    if k < size as usize { Some(2 + k) } else { None }
+    let k = o.0.checked_sub(from.0)?;
+    if k < size { Some(2 + k as usize) } else { None }
 }
 
 // No more offsets than a word can count.
@@ -270,36 +275,43 @@ pub fn no_window(words: &mut [u32])
 impl<'a> Source<'a> {
     ghost use Rattle.cuts.specs.Sources.{nodes_in, pairs_in};
 
-    // How far the pairs reach that start before an offset: the greatest end. From the last pair to the first, as `reach` goes over them.
-    pub fn reach(&self, o: usize) -> u32
-        ensures { result ≡ reach (pairs_in self.now) o }
+    // Where the text ends.
+    pub fn end(&self) -> SourceOffset
+        ensures { result.0 ≡ length self.now.text.now }
     {
-        let mut far = 0;
+        SourceOffset(self.text.len() as u32)
+    }
+
+    // How far the pairs reach that start before an offset: the greatest end. From the last pair to the first, as `reach` goes over them.
+    fn reach(&self, o: SourceOffset) -> SourceOffset
+        ensures { result.0 ≡ reach (pairs_in self.now) o.0 }
+    {
+        let mut far = SourceOffset(0);
         for i in (0..self.pairs.count).rev() {
-            let p = self.pairs.at + 18 * i;
+            let p = self.pairs.at + PAIR_SIZE * i;
             far = far.max(reach_of(pair_start(self.tape, p), pair_end(self.tape, p), o));
         }
         far
     }
 
     // Section 6. No pair with open start < offset < close end.
-    pub fn pairs_allow_cut(&self, o: usize) -> bool
-        ensures { result ≡ pairs_allow_cut (pairs_in self.now) o }
+    fn pairs_allow_cut(&self, o: SourceOffset) -> bool
+        ensures { result ≡ pairs_allow_cut (pairs_in self.now) o.0 }
     {
-        (self.reach(o) as usize) <= o
+        self.reach(o) <= o
     }
 
     // Section 6. No node across; block and warichu depths 0 (falls below 0 count as 0).
-    pub fn nodes_allow_cut(&self, o: usize) -> bool
-        ensures { result ≡ nodes_allow_cut (nodes_in self.now) o }
+    fn nodes_allow_cut(&self, o: SourceOffset) -> bool
+        ensures { result ≡ nodes_allow_cut (nodes_in self.now) o.0 }
     {
         let mut depths = Depths::NONE;
         for i in 0..self.nodes.count {
-            let p = self.nodes.at + 49 * i;
-            if o <= records::node_start(self.tape, p) as usize {
+            let p = self.nodes.at + NODE_SIZE * i;
+            if o <= records::node_start(self.tape, p) {
                 return depths.are_zero();
             }
-            if o < records::node_end(self.tape, p) as usize {
+            if o < records::node_end(self.tape, p) {
                 return false;
             }
             depths = depths.past(self.tape, p);
@@ -309,29 +321,29 @@ impl<'a> Source<'a> {
 
     // Text, nodes and pairs allow a cut.
     #[tactic(auto, using(std::proofs::lemmas::Bool::Decides::nat_tests), unfolding(crate::specs::Safe::cut_allowed))]
-    fn cut_allowed(&self, o: usize) -> bool
-        requires { o ≤ length self.now.text.now }
-        ensures { result ≡ cut_allowed self.now.text.now (nodes_in self.now) (pairs_in self.now) o }
+    fn cut_allowed(&self, o: SourceOffset) -> bool
+        requires { o.0 ≤ length self.now.text.now }
+        ensures { result ≡ cut_allowed self.now.text.now (nodes_in self.now) (pairs_in self.now) o.0 }
     {
         blank_line_before(self.text, o) && self.nodes_allow_cut(o) && self.pairs_allow_cut(o)
     }
 
     // Section 6. `safe_cut`: 0 and the length always; elsewhere text, nodes and pairs allow it.
     #[tactic(auto, using(std::proofs::lemmas::Bool::Decides::nat_tests), unfolding(crate::specs::Safe::safe_cut_in))]
-    pub fn safe_cut(&self, o: usize) -> bool
-        requires { o ≤ length self.now.text.now }
-        ensures { result ≡ safe_cut_in self.now.text.now (nodes_in self.now) (pairs_in self.now) o }
+    pub fn safe_cut(&self, o: SourceOffset) -> bool
+        requires { o.0 ≤ length self.now.text.now }
+        ensures { result ≡ safe_cut_in self.now.text.now (nodes_in self.now) (pairs_in self.now) o.0 }
     {
-        o == 0 || o == self.text.len() || self.cut_allowed(o)
+        o.0 == 0 || o == self.end() || self.cut_allowed(o)
     }
 
     // Each pair's end at the first offset behind its start, the greatest where several are. From the last pair to the first, as `Noted` says.
-    fn note_pairs(&self, slots: &mut [u32], from: u32)
-        ensures { Noted (pairs_in self.now) from slots.new }
+    fn note_pairs(&self, slots: &mut [u32], from: SourceOffset)
+        ensures { Noted (pairs_in self.now) from.0 slots.new }
     {
         wire::zero_words(slots);
         for i in (0..self.pairs.count).rev() {
-            let p = self.pairs.at + 18 * i;
+            let p = self.pairs.at + PAIR_SIZE * i;
             note(
                 slots,
                 from,
@@ -341,46 +353,46 @@ impl<'a> Source<'a> {
         }
     }
 
-    fn fill_slots(&self, slots: &mut [u32], from: u32)
-        ensures { Reaches (pairs_in self.now) from slots.new }
+    fn fill_slots(&self, slots: &mut [u32], from: SourceOffset)
+        ensures { Reaches (pairs_in self.now) from.0 slots.new }
     {
         self.note_pairs(slots, from);
         run_up(slots);
     }
 
-    fn fill(&self, words: &mut [u32], from: u32, size: u32)
+    fn fill(&self, words: &mut [u32], from: SourceOffset, size: u32)
         requires { 2 + size ≤ length words.old }
-        ensures { Window (pairs_in self.now) words.new × (get_or words.new 0 0 ≡ from) × (get_or words.new 1 0 ≡ size) }
+        ensures { Window (pairs_in self.now) words.new × (get_or words.new 0 0 ≡ from.0) × (get_or words.new 1 0 ≡ size) }
     {
         put_bounds(words, from, size);
         self.fill_slots(&mut words[2..2 + size as usize], from);
     }
 
     // The reach at an offset, by a new window with that offset in it. Windows begin at multiples of their size, to serve both ways.
-    fn refill(&self, o: usize, words: &mut [u32], size: u32) -> u32
-        requires { (o < 4294967296) × (3 ≤ length words.old) }
-        ensures value { result ≡ reach (pairs_in self.now) o }
+    fn refill(&self, o: SourceOffset, words: &mut [u32], size: u32) -> SourceOffset
+        requires { 3 ≤ length words.old }
+        ensures value { result.0 ≡ reach (pairs_in self.now) o.0 }
         ensures window { Window (pairs_in self.now) words.new }
     {
-        let n = next_size(room_in(words.len()), size);
-        let j = o % n;
-        self.fill(words, (o - j) as u32, n as u32);
-        words[2 + j]
+        let n = next_size(room_in(words.len()), size) as u32;
+        let j = o.0 % n;
+        self.fill(words, SourceOffset(o.0 - j), n);
+        SourceOffset(words[2 + j as usize])
     }
 
     // The reach at an offset, by the window in the words. The words are lent to each call: where a struct holds them, each of its methods has to
     // say that they, their length and the source stay the same, in place of the one fact that they are a window.
-    pub fn reach_at(&self, o: usize, words: &mut [u32]) -> u32
+    pub fn reach_at(&self, o: SourceOffset, words: &mut [u32]) -> SourceOffset
         requires window { Window (pairs_in self.now) words.old }
-        ensures value { result ≡ reach (pairs_in self.now) o }
+        ensures value { result.0 ≡ reach (pairs_in self.now) o.0 }
         ensures window_2 { Window (pairs_in self.now) words.new }
     {
-        if words.len() < 3 || 4294967295 < o {
+        if words.len() < 3 {
             return self.reach(o);
         }
         let size = words[1];
-        match reach_word(words[0], size, o) {
-            Some(k) => words[k],
+        match reach_word(SourceOffset(words[0]), size, o) {
+            Some(k) => SourceOffset(words[k]),
             None => self.refill(o, words, size),
         }
     }

@@ -10,7 +10,9 @@ use Rattle.model.specs.Store.{NodeStore}
 use Rattle.model.specs.Region.{is_ruby, is_referenced_format, first_plain, is_among, with_plain, depends_from}
 use Rattle.model.specs.Merge.{ruby_bases}
 use Rattle.model.specs.Tape.{record_at, records_at, node_codec}
-use Rattle.wire.specs.Loops.{any_up_to, by_bool, tabulate_last}
+use Rattle.facts.specs.Truth.{by_bool}
+use Rattle.facts.specs.Lists.{tabulate_last}
+use Rattle.wire.specs.Loops.{any_up_to}
 use Rattle.ruby_formats.specs.Asks.{asks_target}
 
 -- is it this string? None is not

@@ -7,10 +7,11 @@ use Rattle.model.specs.Types.{SourceNode}
 use Rattle.model.specs.Store.{NodeStore, resolve_str}
 use Rattle.model.specs.Tape.{record_at, node_codec, string_codec}
 use Rattle.model.specs.Region.{is_ruby}
-use Rattle.laws.specs.Lists.{same_eq}
-use Rattle.wire.specs.Loops.{by_bool}
+use Rattle.facts.specs.Truth.{by_bool}
+use Rattle.facts.specs.Lists.{same_eq}
 use Rattle.store.specs.Pools.{before_next, before_most}
 use Rattle.store.specs.Standing.{string_place, length_at, string_at_lem}
+use Rattle.span.specs.declared.StrId.{StrId}
 use Rattle.strings.specs.Starts.{lengths_in, start_in}
 use Rattle.strings.specs.declared.lent.Strings.{Strings}
 use Rattle.strings.specs.Lent.{lent_store, string_in}
@@ -45,11 +46,11 @@ other_length ss id h s e d =
 -- ---- an answer and bytes
 
 module _ (ss : Strings) (s : List ℕ) where
-  pub plain_some : (id : ℕ) {r : Option ℕ} → r ≡ Some id → {x : Bool} → x ≡ same s (string_in ss id) → x ≡ is_plain s (plain_string (lent_store ss) r)
+  pub plain_some : (id : StrId) {r : Option StrId} → r ≡ Some id → {x : Bool} → x ≡ same s (string_in ss id.0) → x ≡ is_plain s (plain_string (lent_store ss) r)
   unfolding is_plain plain_string
   plain_some id e q = rw e q
 
-  pub plain_none : {r : Option ℕ} → r ≡ None → false ≡ is_plain s (plain_string (lent_store ss) r)
+  pub plain_none : {r : Option StrId} → r ≡ None → false ≡ is_plain s (plain_string (lent_store ss) r)
   unfolding is_plain plain_string
   plain_none e = rw e refl
 
@@ -60,7 +61,7 @@ module _ (ss : Strings) (p : ℕ) (s : List ℕ) {x : Bool} (e : x ≡ is_ruby (
   unfolding has_base
   base_other h = rw (← e, h) refl
 
-  pub base_ruby : x ≡ true → {r : Option ℕ} → ((b : List ℕ) → r ≡ plain_of (first_contents ss.tape.now p b)) → {y : Bool} → y ≡ is_plain s (plain_string (lent_store ss) r)
+  pub base_ruby : x ≡ true → {r : Option StrId} → ((b : List ℕ) → r ≡ plain_of (first_contents ss.tape.now p b)) → {y : Bool} → y ≡ is_plain s (plain_string (lent_store ss) r)
       → y ≡ has_base (lent_store ss) s (record_at node_codec ss.tape.now p)
   unfolding has_base
   base_ruby h g q = rw (← e, h) (q ∙ ap (is_plain s) (sym (plain_first ss p g)))
@@ -68,11 +69,11 @@ module _ (ss : Strings) (p : ℕ) (s : List ℕ) {x : Bool} (e : x ≡ is_ruby (
 -- ---- the target of a Format, whose string may stand in another store
 
 module _ (st other : NodeStore) (ns : List SourceNode) where
-  pub target_some : (id : ℕ) {r : Option ℕ} → r ≡ Some id → {s : List ℕ} → s ≡ resolve_str other id → {x : Bool} → x ≡ any (has_base st s) ns
+  pub target_some : (id : StrId) {r : Option StrId} → r ≡ Some id → {s : List ℕ} → s ≡ resolve_str other id.0 → {x : Bool} → x ≡ any (has_base st s) ns
       → x ≡ among_bases st ns (plain_string other r)
   unfolding among_bases plain_string
   target_some id e f q = rw (e, ← f) q
 
-  pub target_none : {r : Option ℕ} → r ≡ None → false ≡ among_bases st ns (plain_string other r)
+  pub target_none : {r : Option StrId} → r ≡ None → false ≡ among_bases st ns (plain_string other r)
   unfolding among_bases plain_string
   target_none e = rw e refl

@@ -7,8 +7,8 @@ use Rattle.model.specs.Types.{SourceNode}
 use Rattle.model.specs.Store.{NodeStore}
 use Rattle.model.specs.Tape.{record_at, records_at, node_codec}
 use Rattle.model.specs.Region.{is_ruby, is_referenced_format, first_plain}
-use Rattle.laws.specs.Lists.{both, or_left, or_right}
-use Rattle.wire.specs.Loops.{any_up_to, any_missed, by_bool}
+use Rattle.facts.specs.Truth.{both, or_left, or_right, by_bool}
+use Rattle.wire.specs.Loops.{any_up_to, any_missed}
 use Rattle.strings.specs.declared.lent.Strings.{Strings}
 use Rattle.strings.specs.Lent.{lent_store}
 use Rattle.ruby_formats.specs.Asks.{asks_target, asks_at}

@@ -7,8 +7,8 @@ use Rattle.model.specs.Types.{SourceNode}
 use Rattle.model.specs.Store.{NodeStore}
 use Rattle.model.specs.Tape.{record_at, records_at, node_codec}
 use Rattle.model.specs.Region.{is_ruby, is_referenced_format, first_plain}
-use Rattle.laws.specs.Lists.{both, or_left}
-use Rattle.wire.specs.Loops.{any_up_to, by_bool}
+use Rattle.facts.specs.Truth.{both, or_left, by_bool}
+use Rattle.wire.specs.Loops.{any_up_to}
 use Rattle.records.specs.Runs.{run_found}
 use Rattle.strings.specs.declared.lent.Strings.{Strings}
 use Rattle.strings.specs.Lent.{lent_store}

@@ -13,8 +13,9 @@ use Rattle.model.specs.Bytes.{part}
 use Rattle.model.specs.Intern.{fx_hash}
 use Rattle.model.specs.Tape.{record_at, records_at, node_codec}
 use Rattle.model.specs.Region.{is_ruby, first_plain}
-use Rattle.laws.specs.Lists.{both, same_eq}
-use Rattle.wire.specs.Loops.{by_bool, tabulate_last}
+use Rattle.facts.specs.Truth.{both, by_bool}
+use Rattle.facts.specs.Lists.{same_eq, tabulate_last}
+use Rattle.span.specs.declared.StrId.{StrId}
 use Rattle.strings.specs.declared.lent.Strings.{Strings}
 use Rattle.strings.specs.Lent.{lent_store}
 use Rattle.strings.specs.PlainContent.{plain_of, plain_string}
@@ -109,12 +110,12 @@ base_absent {st} {ns} {words} m s e q f =
     (λ r. sym r)
 
 module _ (st : NodeStore) (words : List ℕ) where
-  pub insert_some : (id : ℕ) {r : Option ℕ} → r ≡ Some id → {s : List ℕ} → s ≡ resolve_str st id → {h : ℕ} → h ≡ filter_key s → {after : List ℕ} → after ≡ inserted words h
+  pub insert_some : (id : StrId) {r : Option StrId} → r ≡ Some id → {s : List ℕ} → s ≡ resolve_str st id.0 → {h : ℕ} → h ≡ filter_key s → {after : List ℕ} → after ≡ inserted words h
       → after ≡ inserted_plain words (plain_string st r)
   unfolding inserted_plain plain_string
   insert_some id e f g q = rw e (q ∙ ap (inserted words) (g ∙ ap filter_key f))
 
-  pub insert_none : {r : Option ℕ} → r ≡ None → words ≡ inserted_plain words (plain_string st r)
+  pub insert_none : {r : Option StrId} → r ≡ None → words ≡ inserted_plain words (plain_string st r)
   unfolding inserted_plain plain_string
   insert_none e = rw e refl
 
@@ -123,7 +124,7 @@ module _ (ss : Strings) (p : ℕ) (words : List ℕ) {x : Bool} (e : x ≡ is_ru
   unfolding noted_by
   note_other h = rw (← e, h) refl
 
-  pub note_ruby : x ≡ true → {r : Option ℕ} → ((b : List ℕ) → r ≡ plain_of (first_contents ss.tape.now p b)) → {after : List ℕ}
+  pub note_ruby : x ≡ true → {r : Option StrId} → ((b : List ℕ) → r ≡ plain_of (first_contents ss.tape.now p b)) → {after : List ℕ}
       → after ≡ inserted_plain words (plain_string (lent_store ss) r) → after ≡ noted_by (lent_store ss) words (record_at node_codec ss.tape.now p)
   unfolding noted_by
   note_ruby h g q = rw (← e, h) (q ∙ ap (inserted_plain words) (sym (plain_first ss p g)))

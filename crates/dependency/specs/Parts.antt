@@ -11,13 +11,13 @@ use Rattle.model.specs.Store.{NodeStore}
 use Rattle.model.specs.Tape.{record_at, records_at, node_codec}
 use Rattle.model.specs.Lists.{any}
 use Rattle.model.specs.Region.{is_ruby, first_plain, depends_from}
-use Rattle.laws.specs.Lists.{neither}
-use Rattle.wire.specs.Loops.{any_up_to, Missed, any_missed, by_bool}
+use Rattle.facts.specs.Truth.{neither, by_bool}
+use Rattle.wire.specs.Loops.{any_up_to, Missed, any_missed, any_at}
 use Rattle.records.specs.Runs.{run_none}
+use Rattle.span.specs.declared.StrId.{StrId}
 use Rattle.strings.specs.declared.lent.Strings.{Strings}
 use Rattle.strings.specs.Lent.{lent_store}
 use Rattle.strings.specs.PlainContent.{plain_of, plain_string}
-use Rattle.sorted_ids.specs.Row.{any_false}
 use Rattle.ruby_formats.specs.Asks.{asks_target}
 use Rattle.dependency.specs.Bases.{is_plain, has_base, among_bases, refers_back, refers_at, depends_records}
 use Rattle.dependency.specs.Noted.{Noted, noted_by, noted_none, noted_next}
@@ -103,7 +103,7 @@ module _ (st : NodeStore) (from : ℕ) (t : List ℕ) (at : ℕ) where
             let r : j ≡ i + k = omega arith in
             let u : min i j ≡ i = omega arith in
             let first = ap₂ (λ (a c : ℕ). refers_back st from (nodes at a) (node (at + 49 * c))) (sym u) (sym r) ∙ m.none j b in
-            let next = any_false (refers_among st from t (at + 49 * i) n) (count - i) k (sym e ∙ f) (omega arith) in
+            let next = any_at (refers_among st from t (at + 49 * i) n) (count - i) k (sym e ∙ f) (omega arith) in
             ap₂ (λ (a c : ℕ). refers_back st from (nodes at a) (node (at + 49 * c))) q r
             ∙ piece i (min n k) k ∙ ap₂ (λ (a b : Bool). a || b) first next
 
@@ -116,7 +116,7 @@ module _ (st : NodeStore) (from : ℕ) (t : List ℕ) (at : ℕ) where
       where
         absent : any_up_to count (refers_at st from t at) ≡ false → (k : ℕ) → k < count - i → refers_back st from (nodes (at + 49 * i) (min n k)) (node (at + 49 * i + 49 * k)) ≡ false
         absent s k b =
-            let whole : refers_back st from (nodes at (i + k)) (node (at + 49 * (i + k))) ≡ false = any_false (refers_at st from t at) count (i + k) s (omega arith) in
+            let whole : refers_back st from (nodes at (i + k)) (node (at + 49 * (i + k))) ≡ false = any_at (refers_at st from t at) count (i + k) s (omega arith) in
             let before = refers_back st from (nodes at i) (node (at + 49 * (i + k))) in
             let behind = refers_back st from (nodes (at + 49 * i) k) (node (at + 49 * i + 49 * k)) in
             let own : behind ≡ false = (neither before behind (sym (piece i k k) ∙ whole)).1 in
@@ -144,7 +144,7 @@ module _ (ss : Strings) (at i n from : ℕ) {x : Bool} (e : x ≡ asks_target fr
   unfolding refers_among refers_back
   refers_other h = sym (rw (← e, h) refl)
 
-  pub refers_target : x ≡ true → {r : Option ℕ} → ((b : List ℕ) → r ≡ plain_of (first_contents ss.tape.now (at + 49 * i) b)) → {k : ℕ} → k ≡ min n i
+  pub refers_target : x ≡ true → {r : Option StrId} → ((b : List ℕ) → r ≡ plain_of (first_contents ss.tape.now (at + 49 * i) b)) → {k : ℕ} → k ≡ min n i
       → {y : Bool} → y ≡ among_bases (lent_store ss) (records_at node_codec ss.tape.now at k) (plain_string (lent_store ss) r)
       → y ≡ refers_among (lent_store ss) from ss.tape.now at n i
   unfolding refers_among refers_back

@@ -1,15 +1,14 @@
 -- A run of nodes in pieces, and the bases of two pieces.
-use Rattle.std.specs.Prelude.{◌≡◌, ℕ, zero, suc, ◌+◌, ◌-◌, ◌*◌, ◌≤◌, Bool, false, ◌||◌, List, [], ◌∷◌, ◌++◌, refl}
+use Rattle.std.specs.Prelude.{◌≡◌, ℕ, zero, suc, ◌+◌, ◌-◌, ◌*◌, ◌≤◌, false, ◌||◌, List, [], ◌∷◌, ◌++◌, refl}
 use Rattle.std.proofs.Common.{sym, ap, ap₂, ◌∙◌, arith, add-zero, append_assoc, append-nil}
-use Rattle.std.proofs.Math.Bool.{or_assoc}
 use Rattle.std.proofs.Math.Option.{Option, none, some}
-use Rattle.model.specs.Lists.{all, any, tabulate}
+use Rattle.model.specs.Lists.{all, tabulate}
 use Rattle.model.specs.Types.{SourceNode}
 use Rattle.model.specs.Store.{NodeStore}
 use Rattle.model.specs.Tape.{record_at, records_at, node_codec}
 use Rattle.model.specs.WellFormed.{node_ok}
-use Rattle.laws.specs.Lists.{all_right}
-use Rattle.wire.specs.Loops.{tabulate_last}
+use Rattle.facts.specs.Lists.{tabulate_last}
+use Rattle.facts.specs.Keep.{any_append_is, all_right}
 use Rattle.records.specs.Runs.{run_before}
 use Rattle.strings.specs.declared.lent.Strings.{Strings}
 use Rattle.dependency.specs.Bases.{has_base, among_bases}
@@ -51,14 +50,10 @@ sound_piece {ss} {at} {count} s i n h =
 
 -- ---- bases of both
 
-any_join : (p : SourceNode → Bool) (a b : List SourceNode) → any p (a ++ b) ≡ any p a || any p b
-any_join p [] b = refl
-any_join p (n ∷ a) b = ap (λ (x : Bool). p n || x) (any_join p a b) ∙ sym (or_assoc (p n) (any p a) (any p b))
-
 pub among_join : (st : NodeStore) (a b : List SourceNode) (p : Option (List ℕ)) → among_bases st (a ++ b) p ≡ among_bases st a p || among_bases st b p
 unfolding among_bases
 among_join st a b none = refl
-among_join st a b (some s) = any_join (has_base st s) a b
+among_join st a b (some s) = any_append_is (has_base st s) a b
 
 pub among_none : (st : NodeStore) (p : Option (List ℕ)) → among_bases st [] p ≡ false
 unfolding among_bases

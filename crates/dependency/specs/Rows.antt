@@ -8,7 +8,9 @@ use Rattle.model.specs.Types.{SourceNode}
 use Rattle.model.specs.Store.{NodeStore, resolve_str}
 use Rattle.model.specs.Tape.{record_at, records_at, node_codec}
 use Rattle.model.specs.Region.{is_ruby, first_plain}
-use Rattle.wire.specs.Loops.{any_up_to, tabulate_last}
+use Rattle.facts.specs.Lists.{tabulate_last}
+use Rattle.wire.specs.Loops.{any_up_to}
+use Rattle.span.specs.declared.StrId.{StrId}
 use Rattle.strings.specs.declared.lent.Strings.{Strings}
 use Rattle.strings.specs.Lent.{lent_store, string_in}
 use Rattle.strings.specs.PlainContent.{plain_of, plain_string}
@@ -62,12 +64,12 @@ unfoldable pub is_base_of : NodeStore → SourceNode → List ℕ → Bool
 is_base_of st n s = has_base st s n
 
 module _ {ss : Strings} {words : List ℕ} {m : ℕ} where
-  pub row_some : (id : ℕ) {r : Option ℕ} → r ≡ Some id → {after : List ℕ} {n : ℕ} → Inserted ss (is_string ss id) words m after n
+  pub row_some : (id : StrId) {r : Option StrId} → r ≡ Some id → {after : List ℕ} {n : ℕ} → Inserted ss (is_string ss id.0) words m after n
       → Inserted ss (is_one (plain_string (lent_store ss) r)) words m after n
   unfolding is_string is_one plain_string is_plain
-  row_some id e i = rw e (inserted_as i (is_one (some (string_in ss id))) (λ s. refl))
+  row_some id e i = rw e (inserted_as i (is_one (some (string_in ss id.0))) (λ s. refl))
 
-  pub row_none : Sorted ss words m → {r : Option ℕ} → r ≡ None → Inserted ss (is_one (plain_string (lent_store ss) r)) words m words m
+  pub row_none : Sorted ss words m → {r : Option StrId} → r ≡ None → Inserted ss (is_one (plain_string (lent_store ss) r)) words m words m
   unfolding is_one plain_string is_plain
   row_none row e = rw e (inserted_none row (is_one none) (λ s. refl))
 
@@ -78,7 +80,7 @@ module _ (ss : Strings) (p : ℕ) {x : Bool} (e : x ≡ is_ruby (record_at node_
       let n = record_at node_codec ss.tape.now p in
       inserted_none row (is_base_of (lent_store ss) n) (λ s. ap (λ (b : Bool). b && is_plain s (first_plain (lent_store ss) n)) (sym e ∙ h))
 
-  pub row_ruby : x ≡ true → {r : Option ℕ} → ((b : List ℕ) → r ≡ plain_of (first_contents ss.tape.now p b)) → {after : List ℕ} {n : ℕ}
+  pub row_ruby : x ≡ true → {r : Option StrId} → ((b : List ℕ) → r ≡ plain_of (first_contents ss.tape.now p b)) → {after : List ℕ} {n : ℕ}
       → Inserted ss (is_one (plain_string (lent_store ss) r)) words m after n → Inserted ss (is_base_of (lent_store ss) (record_at node_codec ss.tape.now p)) words m after n
   unfolding is_base_of has_base is_one
   row_ruby h {r} f i =
@@ -148,11 +150,11 @@ among_row_lem of none = refl
 among_row_lem of (some s) = sym (of.holds s)
 
 module _ (r : Row) (other : NodeStore) where
-  pub among_some : (id : ℕ) {p : Option ℕ} → p ≡ Some id → {s : List ℕ} → s ≡ resolve_str other id → {x : Bool} → x ≡ has r s → x ≡ among_row r (plain_string other p)
+  pub among_some : (id : StrId) {p : Option StrId} → p ≡ Some id → {s : List ℕ} → s ≡ resolve_str other id.0 → {x : Bool} → x ≡ has r s → x ≡ among_row r (plain_string other p)
   unfolding among_row plain_string
   among_some id e f q = rw (e, ← f) q
 
-  pub among_nothing : {p : Option ℕ} → p ≡ None → false ≡ among_row r (plain_string other p)
+  pub among_nothing : {p : Option StrId} → p ≡ None → false ≡ among_row r (plain_string other p)
   unfolding among_row plain_string
   among_nothing e = rw e refl
 
@@ -165,7 +167,7 @@ module _ (ss : Strings) (p from : ℕ) (r : Row) {x : Bool} (e : x ≡ asks_targ
   unfolding refers_row
   row_asks_not h = rw (← e, h) refl
 
-  pub row_target : x ≡ true → {o : Option ℕ} → ((b : List ℕ) → o ≡ plain_of (first_contents ss.tape.now p b)) → {y : Bool}
+  pub row_target : x ≡ true → {o : Option StrId} → ((b : List ℕ) → o ≡ plain_of (first_contents ss.tape.now p b)) → {y : Bool}
       → y ≡ among_row r (plain_string (lent_store ss) o) → y ≡ refers_row (lent_store ss) from r (record_at node_codec ss.tape.now p)
   unfolding refers_row
   row_target h f q = rw (← e, h) (q ∙ ap (among_row r) (sym (plain_first ss p f)))

@@ -1,7 +1,7 @@
 -- Where the lent words are used, they are not few.
 use Rattle.std.specs.Prelude.{◌≡◌, ℕ, ◌≤◌, min, Bool, false, ◌&&◌, nat_lt}
 use Rattle.std.proofs.Common.{sym, ap, ◌∙◌, arith, ltb-false}
-use Rattle.wire.specs.Loops.{by_bool}
+use Rattle.facts.specs.Truth.{by_bool}
 
 pub lent_enough : (w n : ℕ) {x : Bool} → x ≡ (nat_lt w 65536 && nat_lt w n) → x ≡ false → min 65536 n ≤ w
 lent_enough w n e f =

@@ -13,6 +13,7 @@ ghost use Rattle.dependency.specs.Rows.{Told};
 
 use crate::Answer;
 use ruby_formats::Nodes;
+use span::StrId;
 use strings::Strings;
 
 #[derive(Clone, Copy)]
@@ -42,7 +43,7 @@ impl<'a> Filter<'a> {
     }
 
     // The same of the string of an answer `p`, which is one of `of`.
-    pub fn is_target_base(&self, of: &Strings, p: Option<u32>) -> Answer
+    pub fn is_target_base(&self, of: &Strings, p: Option<StrId>) -> Answer
         requires { PlainIn of.now.store.now p }
         ensures { Told result (among_bases (nodes_store self.now.nodes.now) (first_nodes self.now.nodes.now self.now.count) (plain_string (lent_store of.now) p)) }
     {

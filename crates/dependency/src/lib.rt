@@ -29,20 +29,22 @@ ghost use Rattle.dependency.specs.Later.{Settled};
 ghost use Rattle.sorted_ids.specs.Row.{Sorted, Inserted};
 
 pub use filter::Filter;
+use numbers::NODE_SIZE;
 use places::Run;
 use ruby_formats::Nodes;
 use sorted_ids::Row;
+use span::{SourceOffset, StrId};
 use strings::Strings;
 
 // Is it the string of an id? Lengths first: where they differ, the string is not looked for.
-fn is_string(strings: &Strings, id: u32, s: &[u8]) -> bool
-    requires { id < strings.now.store.now.totals.strings }
-    ensures { result ≡ same_bytes s.now (string_in strings.now id) }
+fn is_string(strings: &Strings, id: StrId, s: &[u8]) -> bool
+    requires { id.0 < strings.now.store.now.totals.strings }
+    ensures { result ≡ same_bytes s.now (string_in strings.now id.0) }
 {
     strings.string_length(id) == s.len() && compare::same(s, strings.resolve_str(id))
 }
 
-fn is_plain(strings: &Strings, p: Option<u32>, s: &[u8]) -> bool
+fn is_plain(strings: &Strings, p: Option<StrId>, s: &[u8]) -> bool
     requires { PlainIn strings.now.store.now p }
     ensures { result ≡ is_plain s.now (plain_string (lent_store strings.now) p) }
 {
@@ -104,10 +106,10 @@ pub enum Answer {
 pub const MOST_IN_VAIN: u32 = 128;
 
 // Number 10, node i: a Referenced Format that ends behind `from` and whose target is the base of an earlier Ruby among the first n nodes.
-fn refers_among(nodes: &Nodes, n: usize, filter: &[u32], i: usize, from: u32) -> Answer
+fn refers_among(nodes: &Nodes, n: usize, filter: &[u32], i: usize, from: SourceOffset) -> Answer
     requires i_lt_count { i < nodes.now.run.count }
     requires noted { Noted (nodes_store nodes.now) (first_nodes nodes.now (min n i)) filter.now }
-    ensures { Told result (refers_first nodes.now from n i) }
+    ensures { Told result (refers_first nodes.now from.0 n i) }
 {
     if !nodes.asks_target(i, from) {
         return Answer::No;
@@ -121,7 +123,7 @@ fn refers_among(nodes: &Nodes, n: usize, filter: &[u32], i: usize, from: u32) ->
 }
 
 // The string of an answer, inserted.
-fn insert_plain(strings: &Strings, filter: &mut [u32], p: Option<u32>)
+fn insert_plain(strings: &Strings, filter: &mut [u32], p: Option<StrId>)
     requires { PlainIn strings.now.store.now p }
     ensures { filter.new ≡ inserted_plain filter.old (plain_string (lent_store strings.now) p) }
 {
@@ -153,8 +155,8 @@ fn note_first(nodes: &Nodes, n: usize, filter: &mut [u32], i: usize)
 
 // One walk over the nodes; each base among the first n is inserted when it is passed. None for not known, where the filter does not
 // exclude a long target, or bases crowd it.
-fn any_refers_among(nodes: &Nodes, n: usize, filter: &mut [u32], from: u32) -> Option<bool>
-    ensures { IfSome result (λ r. r ≡ any_up_to nodes.now.run.count (refers_first nodes.now from n)) }
+fn any_refers_among(nodes: &Nodes, n: usize, filter: &mut [u32], from: SourceOffset) -> Option<bool>
+    ensures { IfSome result (λ r. r ≡ any_up_to nodes.now.run.count (refers_first nodes.now from.0 n)) }
 {
     let mut vain = 0;
     for i in 0..nodes.run.count {
@@ -218,7 +220,7 @@ pub fn first_places<F: Fn(usize) -> bool>(
 }
 
 // The last Format of each long target that is asked for.
-fn last_targets(nodes: &Nodes, from: u32, places: &mut [u64]) -> usize
+fn last_targets(nodes: &Nodes, from: SourceOffset, places: &mut [u64]) -> usize
     ensures { result ≤ length places.old }
 {
     let long = long_from(&nodes.strings);
@@ -232,7 +234,7 @@ fn last_targets(nodes: &Nodes, from: u32, places: &mut [u64]) -> usize
 }
 
 // Is the string of an answer `p`, which is one of `of`, in the row?
-pub fn is_plain_in_row(row: &Row, of: &Strings, p: Option<u32>) -> bool
+pub fn is_plain_in_row(row: &Row, of: &Strings, p: Option<StrId>) -> bool
     requires { PlainIn of.now.store.now p }
     ensures { result ≡ among_row row.now (plain_string (lent_store of.now) p) }
 {
@@ -243,15 +245,15 @@ pub fn is_plain_in_row(row: &Row, of: &Strings, p: Option<u32>) -> bool
 }
 
 // Number 10, node i: a Referenced Format that ends behind `from` and whose target is in the row.
-fn refers_to_row(nodes: &Nodes, row: &Row, i: usize, from: u32) -> bool
+fn refers_to_row(nodes: &Nodes, row: &Row, i: usize, from: SourceOffset) -> bool
     requires { i < nodes.now.run.count }
-    ensures { result ≡ refers_row (nodes_store nodes.now) from row.now (node_in nodes.now i) }
+    ensures { result ≡ refers_row (nodes_store nodes.now) from.0 row.now (node_in nodes.now i) }
 {
     nodes.asks_target(i, from) && is_plain_in_row(row, &nodes.strings, nodes.first_plain(i))
 }
 
 // The string of an answer, put into the row.
-fn insert_id(strings: &Strings, row: &mut [u32], m: usize, p: Option<u32>) -> usize
+fn insert_id(strings: &Strings, row: &mut [u32], m: usize, p: Option<StrId>) -> usize
     requires row { Sorted strings.now row.old m }
     requires m_in_bounds { m < length row.old }
     requires plain_in { PlainIn strings.now.store.now p }
@@ -277,10 +279,17 @@ pub fn insert_base(nodes: &Nodes, i: usize, row: &mut [u32], m: usize) -> usize
 }
 
 // Number 10, node i, unless a later node asks for its target too: then it is left to that node.
-fn refers_or_later(nodes: &Nodes, n: usize, row: &Row, i: usize, from: u32, last: &[u64]) -> bool
+fn refers_or_later(
+    nodes: &Nodes,
+    n: usize,
+    row: &Row,
+    i: usize,
+    from: SourceOffset,
+    last: &[u64],
+) -> bool
     requires i_lt_count { i < nodes.now.run.count }
     requires bases { RowOf (nodes_store nodes.now) (first_nodes nodes.now (min n i)) row.now }
-    ensures { Settled (refers_first nodes.now from n) nodes.now.run.count i result }
+    ensures { Settled (refers_first nodes.now from.0 n) nodes.now.run.count i result }
 {
     if let Some(v) = noted_place(nodes, i, last) {
         if nodes.asks_again(i, v, from) {
@@ -320,12 +329,12 @@ fn any_refers_sorted(
     nodes: &Nodes,
     n: usize,
     row: &mut [u32],
-    from: u32,
+    from: SourceOffset,
     first: &[u64],
     last: &[u64],
 ) -> bool
     requires { n ≤ length row.old }
-    ensures { result ≡ any_up_to nodes.now.run.count (refers_first nodes.now from n) }
+    ensures { result ≡ any_up_to nodes.now.run.count (refers_first nodes.now from.0 n) }
 {
     let mut m = 0;
     for i in 0..nodes.run.count {
@@ -342,9 +351,9 @@ fn any_refers_sorted(
 }
 
 // The same, with words of its own for the places of long strings: the first Ruby of each base, the last Format of each target.
-fn refers_sorted(nodes: &Nodes, n: usize, row: &mut [u32], from: u32) -> bool
+fn refers_sorted(nodes: &Nodes, n: usize, row: &mut [u32], from: SourceOffset) -> bool
     requires { (n ≤ nodes.now.run.count) × (n ≤ length row.old) }
-    ensures { result ≡ any_up_to nodes.now.run.count (refers_first nodes.now from n) }
+    ensures { result ≡ any_up_to nodes.now.run.count (refers_first nodes.now from.0 n) }
 {
     let mut first = [0u64; 4096];
     let mut last = [0u64; 4096];
@@ -354,9 +363,9 @@ fn refers_sorted(nodes: &Nodes, n: usize, row: &mut [u32], from: u32) -> bool
 }
 
 // The same with a filter that begins as zeros, or a row where the filter does not tell.
-fn part_refers(nodes: &Nodes, n: usize, words: &mut [u32], from: u32) -> bool
+fn part_refers(nodes: &Nodes, n: usize, words: &mut [u32], from: SourceOffset) -> bool
     requires { (n ≤ nodes.now.run.count) × (n ≤ length words.old) }
-    ensures { result ≡ any_up_to nodes.now.run.count (refers_first nodes.now from n) }
+    ensures { result ≡ any_up_to nodes.now.run.count (refers_first nodes.now from.0 n) }
 {
     words.fill(0);
     match any_refers_among(nodes, n, words, from) {
@@ -366,9 +375,9 @@ fn part_refers(nodes: &Nodes, n: usize, words: &mut [u32], from: u32) -> bool
 }
 
 // The same; a part without a Ruby takes no walk.
-fn refers_to_part(nodes: &Nodes, n: usize, words: &mut [u32], from: u32) -> bool
+fn refers_to_part(nodes: &Nodes, n: usize, words: &mut [u32], from: SourceOffset) -> bool
     requires { (n ≤ nodes.now.run.count) × (n ≤ length words.old) }
-    ensures { result ≡ any_up_to nodes.now.run.count (refers_first nodes.now from n) }
+    ensures { result ≡ any_up_to nodes.now.run.count (refers_first nodes.now from.0 n) }
 {
     let part = Run {
         at: nodes.run.at,
@@ -378,9 +387,9 @@ fn refers_to_part(nodes: &Nodes, n: usize, words: &mut [u32], from: u32) -> bool
 }
 
 // Number 10 in parts of half as many nodes as there are words, a walk from each part on: so a target is seldom compared.
-fn refers_in_parts(nodes: &Nodes, words: &mut [u32], from: u32) -> bool
+fn refers_in_parts(nodes: &Nodes, words: &mut [u32], from: SourceOffset) -> bool
     requires { 2 ≤ length words.old }
-    ensures { result ≡ depends_from (nodes_store nodes.now) from [] (first_nodes nodes.now nodes.now.run.count) }
+    ensures { result ≡ depends_from (nodes_store nodes.now) from.0 [] (first_nodes nodes.now nodes.now.run.count) }
 {
     let size = words.len() / 2 + 1;
     // The last part may be shorter.
@@ -390,7 +399,7 @@ fn refers_in_parts(nodes: &Nodes, words: &mut [u32], from: u32) -> bool
         let rest = Nodes {
             strings: nodes.strings,
             run: Run {
-                at: nodes.run.at + 49 * i,
+                at: nodes.run.at + NODE_SIZE * i,
                 count: left,
             },
         };
@@ -402,9 +411,9 @@ fn refers_in_parts(nodes: &Nodes, words: &mut [u32], from: u32) -> bool
 }
 
 // Number 10 by words that may hold anything: an index of the strings in the first quarter, the filter or the row in the others.
-fn refers_by_words(nodes: &Nodes, words: &mut [u32], from: u32) -> bool
+fn refers_by_words(nodes: &Nodes, words: &mut [u32], from: SourceOffset) -> bool
     requires { 2 ≤ length words.old }
-    ensures { result ≡ depends_from (nodes_store nodes.now) from [] (first_nodes nodes.now nodes.now.run.count) }
+    ensures { result ≡ depends_from (nodes_store nodes.now) from.0 [] (first_nodes nodes.now nodes.now.run.count) }
 {
     let (index, words) = words.split_at_mut(words.len() / 4);
     let indexed = nodes.indexed(index);
@@ -412,8 +421,8 @@ fn refers_by_words(nodes: &Nodes, words: &mut [u32], from: u32) -> bool
 }
 
 // The same by words of its own, where so few are lent that there would be many parts.
-fn refers_by_own(nodes: &Nodes, from: u32) -> bool
-    ensures { result ≡ depends_from (nodes_store nodes.now) from [] (first_nodes nodes.now nodes.now.run.count) }
+fn refers_by_own(nodes: &Nodes, from: SourceOffset) -> bool
+    ensures { result ≡ depends_from (nodes_store nodes.now) from.0 [] (first_nodes nodes.now nodes.now.run.count) }
 {
     let mut own = [0u32; 65536];
     refers_by_words(nodes, &mut own[..], from)
@@ -427,8 +436,8 @@ pub fn in_many_parts(words: usize, nodes: usize) -> bool
 }
 
 // Number 10. `has_ruby_format_dependency`. The words may hold anything. A book without a Format that refers to a target behind `from` needs none.
-pub fn has_ruby_format_dependency(nodes: &Nodes, words: &mut [u32], from: u32) -> bool
-    ensures { result ≡ depends_from (nodes_store nodes.now) from [] (first_nodes nodes.now nodes.now.run.count) }
+pub fn has_ruby_format_dependency(nodes: &Nodes, words: &mut [u32], from: SourceOffset) -> bool
+    ensures { result ≡ depends_from (nodes_store nodes.now) from.0 [] (first_nodes nodes.now nodes.now.run.count) }
 {
     let n = ruby_formats::asked_nodes(nodes.strings.tape, nodes.run, from);
     if n == 0 {

@@ -1,15 +1,14 @@
 -- Wish 4, of running calls: what a caller may conclude from the contract of `merge_for_desk`.
-use Rattle.std.specs.Prelude.{◌≡◌, refl, ℕ, ◌+◌, not, List, [], ◌∷◌, ◌++◌, map, length, get_or, set, ltb}
+use Rattle.std.specs.Prelude.{◌≡◌, refl, ℕ, List, [], ◌∷◌, ◌++◌, map, length}
 use Rattle.std.proofs.Common.{sym, ap, ap₂, ◌∙◌}
-use Rattle.model.specs.Offset.{max_u32}
 use Rattle.model.specs.Types.{RegionOutput}
 use Rattle.model.specs.Refusal.{Checked, Checked.refused, Checked.accepted}
 use Rattle.model.specs.WellFormed.{check_reading}
 use Rattle.model.specs.Merge.{Stored, Room, IncrementalOutput, answer}
 use Rattle.model.specs.Demand3.{Correction, merge_of}
-use Rattle.model.specs.Desk.{zero_ledger, desk_ok, Charged, charged, merge_for_desk, Charge, charges_of, ledger_behind, charges, LedgerTotals, DeskCall, desk_of_call, desk_answer, DeskTotals}
-use Rattle.laws.specs.Checks.{bind_accepted, refuse_accepted, same_accepted, merge_accepted}
-use Rattle.laws.proofs.Desk.{desk_totals}
+use Rattle.model.specs.Desk.{zero_ledger, Charged, Charge, charges_of, ledger_behind, charges, LedgerTotals, DeskCall, desk_of_call, desk_answer, DeskTotals}
+use Rattle.laws.specs.Checks.{same_accepted, merge_accepted}
+use Rattle.laws.proofs.Desk.{accepted_call, desk_totals}
 use Rattle.output.specs.declared.IncrementalOutput.{IncrementalOutput as Output}
 use Rattle.output.specs.Answer.{output_value, output_of}
 use Rattle.refusal.specs.Refusal.{checked_map, was_accepted}
@@ -50,24 +49,13 @@ nodes_read book c room a q =
     let m = merge_accepted book c.edit c.reading room a q in
     (m.reading, m.read, ap (λ (x : IncrementalOutput). x.reparsed_nodes) m.facts.result)
 
--- the merge of an accepted call
-accepted_merge : (l : List ℕ) (call : DeskCall) (x : Charged) → desk_answer l call ≡ accepted x → merge_of call.book call.correction call.room ≡ accepted x.merged
-unfolding merge_for_desk charged
-accepted_merge l call x e =
-    let r = refuse_accepted 19 (not (desk_ok call.desk l)) _ x e in
-    let b = bind_accepted (merge_of call.book call.correction call.room) _ x r.1 in
-    let total = get_or l call.desk 0 + b.0.reparsed_nodes in
-    let s = refuse_accepted 20 (ltb max_u32 total) _ x b.2 in
-    let is = same_accepted (record { merged = b.0; ledger = set l call.desk total }) x s.1 in
-    b.1 ∙ ap {B = Checked IncrementalOutput} accepted (ap (λ (c : Charged). c.merged) is)
-
 module _ (l : List ℕ) (call : DeskCall) {r : Output} {out text work next : List ℕ} (m : MergedForDesk (desk_answer l call) call.room (accepted r) out text work l next) where
   told_nodes : (reading : RegionOutput) × (check_reading call.correction.reading.tape call.correction.reading.bytes ≡ accepted reading) × (r.reread ≡ length reading.source_nodes)
   unfolding output_value
   told_nodes =
       let o = was_accepted output_value (checked_map (λ (c : Charged). c.merged) (desk_answer l call)) m.merged.answer in
       let x = was_accepted (λ (c : Charged). c.merged) (desk_answer l call) (sym o.1) in
-      let n = nodes_read call.book call.correction call.room x.0.merged (accepted_merge l call x.0 x.1) in
+      let n = nodes_read call.book call.correction call.room x.0.merged (accepted_call l call x.0 x.1).0 in
       (n.0, n.1, ap (λ (v : Output). v.reread) o.2 ∙ ap (λ (a : IncrementalOutput). a.reparsed_nodes) x.2 ∙ n.2)
 
 -- Merged into another book, by another edit or in another order, a reading costs its desk the same.

@@ -7,7 +7,7 @@ use Rattle.model.specs.Refusal.{Checked, Checked.refused, Checked.accepted, ◌>
 use Rattle.model.specs.Merge.{Stored, Room, IncrementalOutput, room_of}
 use Rattle.model.specs.Demand3.{Correction, merge_of}
 use Rattle.model.specs.Desk.{desk_count, desk_ok, Charged, charged, merge_for_desk, ledger_after}
-use Rattle.laws.specs.Lists.{both}
+use Rattle.facts.specs.Truth.{both}
 use Rattle.ledger.specs.Unless.{unless, unless_none, unless_some}
 use Rattle.refusal.specs.Refusal.{checked_map, was_refused, was_accepted}
 use Rattle.output.specs.declared.IncrementalOutput.{IncrementalOutput as Output}
@@ -23,6 +23,10 @@ pub desk_told : {asked : Checked Charged} {room : Room} {x y : Checked Output} {
 desk_told e m = record { merged = merge_told e m.merged; totals = m.totals }
 
 -- ---- the returns
+
+-- what `ledger::charged` answers: the totals with one grown, and none where it is full
+abbrev grown_by : List ℕ → ℕ → ℕ → Option (List ℕ)
+grown_by totals desk reread = let total = get_or totals desk 0 + reread in unless (ltb max_u32 total) (set totals desk total)
 
 -- totals that were given have the desk
 pub desk_inside : (desk : ℕ) (ledger : List ℕ) {totals : List ℕ} → Some totals ≡ unless (not (desk_ok desk ledger)) ledger → desk < 64
@@ -65,12 +69,12 @@ module _ (desk : ℕ) (ledger : List ℕ) (book : Stored) (c : Correction) (out 
       unfolding merge_for_desk refuse◌if◌ ◌>>=◌
       is_charged = rw ((unless_some _ _ some).0, got.1) refl
 
-      -- what `charged` answers, of the lent totals and the rereads that the merge answered
-      told : {o : Option (List ℕ)} → o ≡ unless (ltb max_u32 (get_or totals desk 0 + r.reread)) (set totals desk (get_or totals desk 0 + r.reread)) → o ≡ unless (ltb max_u32 total) (set ledger desk total)
+      -- the same of the ledger and of what the merge reread
+      told : {o : Option (List ℕ)} → o ≡ grown_by totals desk r.reread → o ≡ grown_by ledger desk got.0.reparsed_nodes
       unfolding output_value
       told e = let q : r.reread ≡ got.0.reparsed_nodes = ap (λ (x : Output). x.reread) got.2 in rw ((unless_some _ _ some).1, q) at e
 
-      pub total_full : None ≡ unless (ltb max_u32 (get_or totals desk 0 + r.reread)) (set totals desk (get_or totals desk 0 + r.reread))
+      pub total_full : None ≡ grown_by totals desk r.reread
           → {s : Checked Output} {out' text' work' : List ℕ} → Merged (refused 20) (room_of out₁ text₁ work₁) s out' text' work'
           → length out₁ ≡ length out → length text₁ ≡ length text → length work₁ ≡ length work → MergedForDesk asks room s out' text' work' ledger ledger
       unfolding charged refuse◌if◌ ◌>>=◌
@@ -79,7 +83,7 @@ module _ (desk : ℕ) (ledger : List ℕ) (book : Stored) (c : Correction) (out 
           let same : room_of out₁ text₁ work₁ ≡ room = λ i. record { tape_bytes = k i; text_bytes = l i; work_words = n i } in
           refused_by (is_charged ∙ is) (subst (λ (x : Room). Merged (refused 20) x s out' text' work') same cleared)
 
-      pub merge_charged : {grown ledger' : List ℕ} → Some grown ≡ unless (ltb max_u32 (get_or totals desk 0 + r.reread)) (set totals desk (get_or totals desk 0 + r.reread))
+      pub merge_charged : {grown ledger' : List ℕ} → Some grown ≡ grown_by totals desk r.reread
           → ledger' ≡ grown → MergedForDesk asks room (accepted r) out₁ text₁ work₁ ledger ledger'
       unfolding charged refuse◌if◌ ◌>>=◌ ledger_after
       merge_charged {grown} e q =

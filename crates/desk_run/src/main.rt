@@ -10,6 +10,7 @@ use books::{Correction, Stored};
 use edit::Edit;
 use output::IncrementalOutput;
 use refusal::Refusal;
+use span::SourceOffset;
 use std::alloc::Global;
 use std::io;
 use std::io::Read;
@@ -131,8 +132,8 @@ fn merge(left: &mut Left, lent: &mut Lent, c: cases::Case) -> Result<Incremental
     let reading_bytes = reading_tape + wire::u32_or_zero(rest, 32) as usize;
     let book = Stored::new(&left.tape, &left.bytes);
     let edit = Edit {
-        start: c.start,
-        end: c.end,
+        start: SourceOffset(c.start),
+        end: SourceOffset(c.end),
         replacement: wire::between(rest, replacement, reading_tape),
     };
     let reading = Stored::new(

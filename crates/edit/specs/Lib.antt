@@ -1,2 +1,3 @@
 pub mod Same
 pub mod Numbers
+pub mod Values

@@ -9,8 +9,7 @@ use Rattle.model.specs.Lists.{same}
 use Rattle.model.specs.Utf8.{utf8, is_char_boundary}
 use Rattle.model.specs.Types.{LexOutput}
 use Rattle.model.specs.Region.{Edit, edited, edit_ok, edit_of}
-use Rattle.laws.specs.Lists.{both}
-use Rattle.wire.specs.Loops.{by_bool}
+use Rattle.facts.specs.Truth.{both, by_bool}
 use Rattle.edit.specs.Same.{edited_length}
 
 -- Number 8. Start ≤ end ≤ length, neither inside a character.

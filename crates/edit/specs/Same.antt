@@ -7,8 +7,8 @@ use Rattle.std.proofs.Math.ListN.{take, drop, length-append, length-drop}
 use Rattle.std.proofs.Math.Seq.{length-take-le}
 use Rattle.model.specs.Lists.{same}
 use Rattle.model.specs.Region.{Edit, edited}
-use Rattle.laws.specs.Lists.{same_eq, same_refl}
-use Rattle.wire.specs.Loops.{by_bool}
+use Rattle.facts.specs.Truth.{by_bool}
+use Rattle.facts.specs.Lists.{same_eq, same_refl}
 use Rattle.compare.specs.Compare.{same_length}
 
 same_behind : (a b c : List ℕ) → same (a ++ b) (a ++ c) ≡ same b c

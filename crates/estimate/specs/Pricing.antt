@@ -7,31 +7,32 @@ use borrow.Author.Tests.{leb-true, leb-false, lt-ltb, le-ltb}
 use Rattle.model.specs.Limits.{max_pool}
 use Rattle.model.specs.Types.{LexOutput, RegionOutput}
 use Rattle.model.specs.Refusal.{Checked, Checked.refused, Checked.accepted, ◌>>=◌}
-use Rattle.model.specs.Tape.{places, book_at}
 use Rattle.model.specs.Tree.{shown_nodes}
 use Rattle.model.specs.Graft.{layered, graft_node_refs}
 use Rattle.model.specs.Region.{Edit, edited}
-use Rattle.model.specs.Merge.{stored_of, MergeWindow, fitted, merged_book, merged_normalized, grafted}
+use Rattle.model.specs.Merge.{Stored, MergeWindow, fitted, merged_book, merged_normalized, grafted}
 use Rattle.model.specs.Estimate.{Estimate, over, is_over, length_before, price_of, estimate}
+use Rattle.facts.specs.Truth.{by_bool}
 use Rattle.laws.specs.Parts.{strings_bytes}
-use Rattle.wire.specs.Loops.{by_bool}
 use Rattle.refusal.specs.Refusal.{checked_map}
 use Rattle.places.specs.declared.Places.{Places}
-use Rattle.store.specs.declared.Store.{Store}
-use Rattle.ids.specs.Whole.{IdsFit, ids_in}
 use Rattle.sizes.specs.declared.Room.{Room}
 use Rattle.sizes.specs.declared.Sizes.{Sizes}
 use Rattle.sizes.specs.Added.{Added}
 use Rattle.sizes.specs.Capped.{fits, sizes_in}
 use Rattle.sizes.specs.Trees.{nodes_size, node_refs_grow}
 use Rattle.sizes.specs.Calls.{Limited}
-use Rattle.layer.specs.Source.{SourceFits, source_ids, source_in_lem, source_few}
 use Rattle.merged_lists.specs.declared.Lengths.{Lengths}
 use Rattle.merged_lists.specs.Sizes.{lengths_of}
-use Rattle.fitting.specs.Books.{Books, book_in}
-use Rattle.result.specs.Books.{lengths_read}
+use Rattle.tape.specs.StringBytes.{book_of}
+use Rattle.tape.specs.declared.book.Book.{Book}
+use Rattle.edit.specs.Values.{edit_value}
+use Rattle.splice.specs.Window.{window_value}
+use Rattle.fitting.specs.declared.merging.Merging.{Merging}
+use Rattle.fitting.specs.Fits.{Fits}
+use Rattle.fitting.specs.Inside.{lengths_read, limits_read}
 use Rattle.result.specs.Whole.{base_is}
-use Rattle.fitting.specs.Stages.{books_fitted}
+use Rattle.fitting.specs.Stages.{MergingOf, merging_fitted}
 use Rattle.estimate.specs.declared.Price.{Price}
 
 -- ---- the answer
@@ -105,24 +106,24 @@ sizes_told a reread bytes e =
 unfoldable pub price_in : LexOutput → Edit → RegionOutput → MergeWindow → Estimate
 price_in old e reading w = price_of old e reading w (grafted old reading)
 
-module _ {t d : List ℕ} {p : Places} {st : Store} {e : Edit} {w : MergeWindow} {rt rd : List ℕ} {q : Places} {own : Store} (b : Books t d p st e w rt rd q own) where
+module _ {book : Book} {e : Edit} {w : MergeWindow} {reading : Book} (b : Fits book e w reading) where
+  abbrev q : Places
+  q = reading.places
+
   abbrev old : LexOutput
-  old = book_in t d
+  old = book_of book
 
   abbrev read : RegionOutput
-  read = book_in rt rd
-
-  source : SourceFits rt rd q own
-  source = record { accepted = b.reading.whole; is = b.reading_places; stored = b.reading_store }
-
-  pub sizes_ready : IdsFit rt own q × ((ids_in rt own ≡ true) × Limited pool q.nodes.count)
-  sizes_ready = (source_ids source, (source_in_lem source, record { contents = omega arith; segments = omega arith; few = source_few source }))
+  read = book_of reading
 
   pub nodes_few : q.nodes.count ≤ 262143
-  nodes_few = source_few source
+  nodes_few = let n = lengths_read b in let l = limits_read b in omega (arith, n.nodes, l.source_nodes)
 
-  pub priced : {s : Option Sizes} → ((x : List ℕ) → s ≡ sizes_in pool (nodes_size (shown_nodes (book_at rt (places rt) x)))) → {l : Lengths}
-      → l ≡ lengths_of p q e.start e.end (length e.replacement) w.normalized.start w.normalized.end (length d) → {r : Price}
+  pub sizes_ready : Limited pool q.nodes.count
+  sizes_ready = record { contents = omega arith; segments = omega arith; few = nodes_few }
+
+  pub priced : {s : Option Sizes} → s ≡ sizes_in pool (nodes_size (shown_nodes read)) → {l : Lengths}
+      → l ≡ lengths_of book.places q e.start e.end (length e.replacement) w.normalized.start w.normalized.end (length book.bytes.now) → {r : Price}
       → r ≡ price_by q.nodes.count s l.base → r ≡ price_value (price_in old e read w)
   unfolding price_in price_of grafted layered length_before merged_book
   priced f {l} z h =
@@ -136,16 +137,18 @@ module _ {t d : List ℕ} {p : Places} {st : Store} {e : Edit} {w : MergeWindow}
       let y = length-append (edited old.sanitized e ++ merged_normalized w old read) (strings_bytes old) in
       let i = base_is b z in
       let m : l.base ≡ length (edited old.sanitized e) + length (merged_normalized w old read) + length (strings_bytes old) = omega (arith, x, y, i) in
-      h ∙ sizes_told a q.nodes.count l.base (f rd) ∙ (λ j. price_value (three_of (n j) (c₁ j) (c₂ j) (c₃ j) (m j)))
+      h ∙ sizes_told a q.nodes.count l.base f ∙ (λ j. price_value (three_of (n j) (c₁ j) (c₂ j) (c₃ j) (m j)))
 
 -- ---- 1 to 17, then the price
 
-module _ (t d : List ℕ) (e : Edit) (rt rd : List ℕ) where
-  pub estimate_none : {n : ℕ} → fitted (stored_of t d) e (stored_of rt rd) ≡ refused n → refused n ≡ estimate_of (estimate (stored_of t d) e (stored_of rt rd))
+module _ (s : Stored) (e : Edit) (rs : Stored) where
+  pub estimate_none : {n : ℕ} → fitted s e rs ≡ refused n → refused n ≡ estimate_of (estimate s e rs)
   unfolding estimate ◌>>=◌
   estimate_none f = rw f refl
 
-  pub estimate_some : {p q : Places} {st own : Store} {w : MergeWindow} → Books t d p st e w rt rd q own → {r : Price} → r ≡ price_value (price_in (book_in t d) e (book_in rt rd) w)
-      → accepted r ≡ estimate_of (estimate (stored_of t d) e (stored_of rt rd))
+  pub estimate_some : {m : Merging} → MergingOf s e rs m → {r : Price} → r ≡ price_value (price_in (book_of m.book) (edit_value m.edit) (book_of m.reading) (window_value m.window))
+      → accepted r ≡ estimate_of (estimate s e rs)
   unfolding estimate ◌>>=◌ price_in
-  estimate_some b q = ap {B = Checked Price} accepted q ∙ sym (rw (books_fitted b) refl)
+  estimate_some o q =
+      let q' = rw o.edit at q in
+      ap {B = Checked Price} accepted q' ∙ sym (rw (merging_fitted o) refl)

@@ -5,20 +5,21 @@
 ghost use Rattle.std.specs.Prelude.{◌≡◌, length};
 ghost use Rattle.model.specs.Bytes.{zeros};
 ghost use Rattle.model.specs.Estimate.{estimate};
-ghost use Rattle.books.specs.Values.{stored_value, edit_value};
+ghost use Rattle.edit.specs.Values.{edit_value};
+ghost use Rattle.books.specs.Values.{stored_value};
 ghost use Rattle.refusal.specs.Refusal.{checked};
 ghost use Rattle.splice.specs.Window.{window_value};
-ghost use Rattle.fitting.specs.Books.{book_in};
-ghost use Rattle.fitting.specs.Stages.{BooksOf};
+ghost use Rattle.tape.specs.StringBytes.{book_of};
 ghost use Rattle.estimate.specs.Pricing.{over_price, price_by, price_value, estimate_of, price_in};
 
-use books::{Correction, Merging, Stored};
+use books::{Correction, Stored};
+use fitting::Merging;
 use refusal::Refusal;
 
 // Number 3's limit, here of a price; those of `texts` and `layer` are private to them.
-const MAX_POOL: u32 = 1048575;
+const MAX_POOL: u32 = numbers::MAX_POOL as u32;
 
-const OVER: u32 = 1048576;
+const OVER: u32 = MAX_POOL + 1;
 
 // What the merge would make: the reading's nodes, calls of `intern`, contents and segments added, and the length of the byte buffer without
 // the new layer's strings. The three are 1048576 where one of them is above 1048575.
@@ -62,32 +63,29 @@ fn price_by(reread: u32, s: Option<sizes::Sizes>, bytes: usize) -> Price
     }
 }
 
-// The price of a book and a reading that passed 1 to 17.
+// The price of what passed 1 to 17.
 fn price_fitted(m: &Merging) -> Price
-    requires { BooksOf m.now }
-    ensures { result ≡ price_value (price_in (book_in m.now.book.tape.now m.now.book.bytes.now) (edit_value m.now.edit)
-        (book_in m.now.reading.tape.now m.now.reading.bytes.now) (window_value m.now.window)) }
+    ensures { result ≡ price_value (price_in (book_of m.now.book) (edit_value m.now.edit) (book_of m.now.reading) (window_value m.now.window)) }
 {
-    let q = m.reading.places;
     let l = merged_lists::new_lengths(m);
     let room = sizes::Room {
         contents: MAX_POOL,
         segments: MAX_POOL,
     };
-    let s = sizes::reading_sizes(m.reading.tape, *m.reading.store, q, room);
-    price_by(q.nodes.count as u32, s, l.base)
+    let s = sizes::reading_sizes(&m.reading, room);
+    price_by(m.reading.places.nodes.count as u32, s, l.base)
 }
 
 // Numbers 1 to 17, then the price; the work words are not cleared.
-fn estimate_checked<'a>(
-    book: &Stored<'a>,
-    correction: &Correction<'a>,
+fn estimate_stored(
+    book: &Stored,
+    correction: &Correction,
     work: &mut [u32],
 ) -> Result<Price, Refusal>
     ensures { checked result ≡ estimate_of (estimate (stored_value book.now) (edit_value correction.now.edit) (stored_value correction.now.reading)) }
 {
-    let f = fitting::fitted(book, correction, work)?;
-    Ok(price_fitted(&f.merging(book, correction)))
+    let m = fitting::fit(book, correction, work)?;
+    Ok(price_fitted(&m))
 }
 
 // `estimate`: the merge's 1 to 17 as the merge gives them, or the price; all work words are 0 at the end.
@@ -95,7 +93,7 @@ pub fn estimate(book: &Stored, correction: &Correction, work: &mut [u32]) -> Res
     ensures { (checked result ≡ estimate_of (estimate (stored_value book.now) (edit_value correction.now.edit) (stored_value correction.now.reading)))
         × (work.new ≡ zeros (length work.old)) }
 {
-    let r = estimate_checked(book, correction, work);
+    let r = estimate_stored(book, correction, work);
     wire::zero_words(work);
     r
 }

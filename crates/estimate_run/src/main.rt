@@ -8,6 +8,7 @@ use books::{Correction, Stored};
 use edit::Edit;
 use estimate::Price;
 use refusal::Refusal;
+use span::SourceOffset;
 use std::io;
 use std::io::Read;
 
@@ -32,8 +33,8 @@ fn show(rt: &(impl Alloc + Print), c: cases::Case) -> io::Result<()> {
     let reading_bytes = reading_tape + wire::u32_or_zero(rest, 8) as usize;
     let book = Stored::new(c.tape, c.bytes);
     let edit = Edit {
-        start: c.start,
-        end: c.end,
+        start: SourceOffset(c.start),
+        end: SourceOffset(c.end),
         replacement: wire::between(rest, HEAD, reading_tape),
     };
     let reading = Stored::new(

@@ -28,6 +28,7 @@ ghost use Rattle.answers.specs.Answers.{allowed_answer, node_answer, range_answe
 
 use books::{Correction, Stored};
 use edit::Edit;
+use span::SourceOffset;
 
 #[unsafe(no_mangle)]
 pub extern "C" fn aozora_check_book(tape: &[u8], bytes: &[u8]) -> u32
@@ -142,7 +143,14 @@ pub extern "C" fn aozora_choose_region(
     ensures { (result ≡ region_answer (choose_region tape.now bytes.now (edit_of start end replacement.now)))
         × (words.new ≡ zeros (length words.old)) }
 {
-    answers::RegionAnswer::from(region::choose_region(tape, bytes, start, end, replacement, words))
+    answers::RegionAnswer::from(region::choose_region(
+        tape,
+        bytes,
+        SourceOffset(start),
+        SourceOffset(end),
+        replacement,
+        words,
+    ))
 }
 
 #[unsafe(no_mangle)]
@@ -161,8 +169,8 @@ pub extern "C" fn aozora_estimate<'a>(
 {
     let book = Stored { tape, bytes };
     let edit = Edit {
-        start,
-        end,
+        start: SourceOffset(start),
+        end: SourceOffset(end),
         replacement,
     };
     let reading = Stored {
@@ -192,8 +200,8 @@ pub extern "C" fn aozora_merge<'a>(
 {
     let book = Stored { tape, bytes };
     let edit = Edit {
-        start,
-        end,
+        start: SourceOffset(start),
+        end: SourceOffset(end),
         replacement,
     };
     let reading = Stored {
@@ -233,8 +241,8 @@ pub extern "C" fn aozora_merge_for_desk<'a>(
 {
     let book = Stored { tape, bytes };
     let edit = Edit {
-        start,
-        end,
+        start: SourceOffset(start),
+        end: SourceOffset(end),
         replacement,
     };
     let reading = Stored {
@@ -291,8 +299,8 @@ pub extern "C" fn aozora_merge_both_orders<'a>(
     let book = Stored { tape, bytes };
     let earlier = Correction {
         edit: Edit {
-            start: start1,
-            end: end1,
+            start: SourceOffset(start1),
+            end: SourceOffset(end1),
             replacement: replacement1,
         },
         reading: Stored {
@@ -302,8 +310,8 @@ pub extern "C" fn aozora_merge_both_orders<'a>(
     };
     let later = Correction {
         edit: Edit {
-            start: start2,
-            end: end2,
+            start: SourceOffset(start2),
+            end: SourceOffset(end2),
             replacement: replacement2,
         },
         reading: Stored {

@@ -1,6 +1,6 @@
-pub mod Books
 pub mod Numbers
-pub mod Stages
+pub mod Fits
 pub mod Window
 pub mod Reading
-pub mod Merging
+pub mod Stages
+pub mod Inside

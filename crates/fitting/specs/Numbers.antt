@@ -10,9 +10,8 @@ use Rattle.model.specs.Types.{LexOutput, RegionOutput}
 use Rattle.model.specs.Refusal.{Checked.refused, ◌>>=◌, refuse◌if◌}
 use Rattle.model.specs.Region.{Edit}
 use Rattle.model.specs.Merge.{new_region_text, balanced_nodes, is_unclosed, mark_at_empty_region, introduces_ruby_format_dependency, window_of, cuts_ok, fitting}
-use Rattle.laws.specs.Lists.{neither}
+use Rattle.facts.specs.Truth.{neither, by_bool}
 use Rattle.laws.specs.Checks.{Passed}
-use Rattle.wire.specs.Loops.{by_bool}
 use Rattle.passage.specs.Layers.{layer_missing}
 
 -- the first of 15 to 17 that holds, or 0

@@ -1,105 +1,138 @@
--- What each stage of 1 to 17 is given and answers, and the laws for its returns.
-use Rattle.std.specs.Prelude.{◌≡◌, refl, ℕ, List, Result, MatchResult}
+-- What the stages of 1 to 17 answer, and the laws for their returns.
+use Rattle.std.specs.Prelude.{◌≡◌, refl, ℕ, ◌<◌, List, length, Result, MatchResult}
 use Rattle.std.proofs.Math.Path.{sym}
-use Rattle.std.proofs.Common.{ap, ◌∙◌}
+use Rattle.std.proofs.Common.{ap, ◌∙◌, subst, arith}
+use Rattle.model.specs.Bytes.{AreBytes}
 use Rattle.model.specs.Offset.{Span}
+use Rattle.model.specs.Types.{LexOutput, RegionOutput}
 use Rattle.model.specs.Refusal.{Checked, Checked.refused, Checked.accepted, ◌>>=◌}
-use Rattle.model.specs.Tape.{places, book_at}
 use Rattle.model.specs.WellFormed.{check_book, check_reading}
 use Rattle.model.specs.Region.{Edit, chosen_region}
-use Rattle.model.specs.Merge.{stored_of, MergeWindow, fitting, fitted}
-use Rattle.laws.specs.Checks.{passed_fitting}
-use Rattle.places.specs.declared.Places.{Places}
-use Rattle.store.specs.declared.Store.{Store}
-use Rattle.store.specs.Stored.{StoreFits, store_at}
-use Rattle.tape.specs.Accepted.{Accepted, AcceptedReading, PassedReading, accepted_store}
-use Rattle.region.specs.Held.{Held}
+use Rattle.model.specs.Merge.{Stored, stored_of, MergeWindow, normalized_offset, window_of, fitting, Fitted, fitted}
+use Rattle.laws.specs.Checks.{Passed, passed_fitting, fitting_passed}
 use Rattle.refusal.specs.declared.Refusal.{Refusal}
 use Rattle.refusal.specs.Refusal.{number}
 use Rattle.span.specs.Values.{span_of}
+use Rattle.splice.specs.declared.Window.{Window}
 use Rattle.splice.specs.Window.{window_value}
-use Rattle.books.specs.Values.{edit_value}
-use Rattle.books.specs.declared.Merging.{Merging}
-use Rattle.fitting.specs.Books.{Books, book_in}
-use Rattle.fitting.specs.declared.Target.{Target}
-use Rattle.fitting.specs.declared.Fitting.{Fitting}
+use Rattle.edit.specs.Values.{edit_value}
+use Rattle.tape.specs.Accepted.{AcceptedReading}
+use Rattle.tape.specs.Opened.{BookOf}
+use Rattle.tape.specs.StringBytes.{book_of}
+use Rattle.tape.specs.declared.book.Book.{Book}
+use Rattle.fitting.specs.declared.merging.Merging.{Merging}
+use Rattle.fitting.specs.Fits.{nodes_of, RegionOf, Fits}
+use Rattle.fitting.specs.Numbers.{reading_number, number_refused, number_passed}
+use Rattle.fitting.specs.Window.{window_from, window_is, CutsOf}
+use Rattle.fitting.specs.Reading.{held_lengths}
 
--- ---- what a stage is given
+-- ---- what is merged
 
--- the old book passed 1 to 7, and the edit 8 to 11
-pub record Given (t d : List ℕ) (p : Places) (st : Store) (e : Edit) (r : Span) : Type 0 where
-  pub held : Held t d p st
-  pub chosen : chosen_region (book_at t (places t) d) e ≡ accepted r
+-- what is merged is that book, that edit and that reading; what is known of them is its field `fits`
+pub record MergingOf (s : Stored) (e : Edit) (rs : Stored) (m : Merging) : Type 0 where
+  pub book : stored_of m.book.tape.now m.book.bytes.now ≡ s
+  pub edit : edit_value m.edit ≡ e
+  pub reading : stored_of m.reading.tape.now m.reading.bytes.now ≡ rs
 
--- and the reading 1 to 7
-pub record Read (t d : List ℕ) (p : Places) (st : Store) (e : Edit) (r : Span) (rt rd : List ℕ) (q : Places) (own : Store) : Type 0 where
-  pub given : Given t d p st e r
-  pub reading : AcceptedReading rt rd
-  pub held : Held rt rd q own
+-- 1 to 17: one of them, or what is merged
+abbrev pub FitsOrRefused : Stored → Edit → Stored → Result Merging Refusal → Type 0
+FitsOrRefused s e rs x = MatchResult x (λ m. MergingOf s e rs m) (λ r. fitted s e rs ≡ refused (number r))
 
--- ---- what it answers
+-- as the model has it
+abbrev pub fitted_value : Merging → Fitted
+fitted_value m = record { old = book_of m.book; reading = book_of m.reading; window = window_value m.window }
 
--- 1 to 11: a number, or what the stages behind are given
-abbrev pub TargetFound : List ℕ → List ℕ → Edit → Result Target Refusal → Type 0
-TargetFound t d e x =
-    MatchResult x (λ b. Given t d b.p b.st e (span_of b.region)) (λ r. (check_book t d >>= λ old. chosen_region old e) ≡ refused (number r))
-
--- 1 to 17: a number, or what number 18 and the result are made of
-abbrev pub Fits : List ℕ → List ℕ → Edit → List ℕ → List ℕ → Result Fitting Refusal → Type 0
-Fits t d e rt rd x =
-    MatchResult x (λ f. Books t d f.p f.st e (window_value f.w) rt rd f.q f.own) (λ r. fitted (stored_of t d) e (stored_of rt rd) ≡ refused (number r))
-
--- the same of what is merged
-abbrev pub BooksOf : Merging → Type 0
-BooksOf m =
-    Books m.book.tape.now m.book.bytes.now m.book.places m.book.store.now (edit_value m.edit) (window_value m.window)
-    m.reading.tape.now m.reading.bytes.now m.reading.places m.reading.store.now
-
-pub books_fitted : {t d : List ℕ} {p : Places} {st : Store} {e : Edit} {w : MergeWindow} {rt rd : List ℕ} {q : Places} {own : Store} → Books t d p st e w rt rd q own
-    → fitted (stored_of t d) e (stored_of rt rd) ≡ accepted (record { old = book_in t d; reading = book_in rt rd; window = w })
+fits_fitted : {b : Book} {e : Edit} {w : MergeWindow} {r : Book} → Fits b e w r
+    → fitted (stored_of b.tape.now b.bytes.now) e (stored_of r.tape.now r.bytes.now) ≡ accepted (record { old = book_of b; reading = book_of r; window = w })
 unfolding fitted ◌>>=◌
-books_fitted {t} {d} {e = e} {w = w} {rt = rt} {rd = rd} b =
-    let f = passed_fitting (book_in t d) e w.source (book_in rt rd) b.passed ∙ ap accepted (sym b.window) in
-    rw (b.book.book, b.region, b.reading.reading, f) refl
+fits_fitted {b} {e} {w} {r} f =
+    let p = passed_fitting (book_of b) e w.source (book_of r) f.passed ∙ ap accepted (sym f.window) in
+    rw (b.held.accepted.book, f.region, f.reading.reading, p) refl
 
--- ---- 1 to 11
+pub merging_fitted : {s : Stored} {e : Edit} {rs : Stored} {m : Merging} → MergingOf s e rs m → fitted s e rs ≡ accepted (fitted_value m)
+merging_fitted {m = m} o = rw (o.book, o.edit, o.reading) at (fits_fitted m.fits)
 
-module _ (t d : List ℕ) (e : Edit) {n : ℕ} where
-  pub book_refused : check_book t d ≡ refused n → (check_book t d >>= λ old. chosen_region old e) ≡ refused n
-  unfolding ◌>>=◌
-  book_refused q = rw q refl
+-- ---- 12 to 17, by the code's window
 
-  pub edit_refused : Accepted t d → refused n ≡ chosen_region (book_at t (places t) d) e → (check_book t d >>= λ old. chosen_region old e) ≡ refused n
-  unfolding ◌>>=◌
-  edit_refused a k = rw a.book (sym k)
+module _ {b : Book} {e : Edit} {r : Span} (g : RegionOf b e r) (reading : Book) (w : Window)
+    (f : window_value w ≡ window_from r.start r.end (normalized_offset (nodes_of b) r.start) (normalized_offset (nodes_of b) r.end) (length e.replacement) e.start e.end reading.places.normalized.0) where
+  abbrev old : LexOutput
+  old = book_of b
 
--- ---- 12 to 17
+  abbrev new : RegionOutput
+  new = book_of reading
 
--- a chain that goes on behind a refusal
-go_on : {A B C : Type 0} (n : ℕ) (x : Checked A) (f : A → Checked B) (k : A → B → Checked C) → (x >>= f) ≡ refused n → (x >>= λ a. f a >>= k a) ≡ refused n
-unfolding ◌>>=◌
-go_on n (refused m) f k z = let s : m ≡ n = cc in ap refused s
-go_on n (accepted a) f k z = ap (λ y. y >>= k a) z
+  abbrev cut : ℕ → ℕ
+  cut = normalized_offset (nodes_of b)
 
-pub target_refused : (t d : List ℕ) (e : Edit) {n : ℕ} → (check_book t d >>= λ old. chosen_region old e) ≡ refused n → (rt rd : List ℕ)
-    → fitted (stored_of t d) e (stored_of rt rd) ≡ refused n
-unfolding fitted
-target_refused t d e {n} h rt rd = go_on n (check_book t d) (λ old. chosen_region old e) _ h
+  source : span_of w.source ≡ r
+  source = ap (λ (m : MergeWindow). m.source) f
 
-module _ {rt rd : List ℕ} {q : Places} (a : PassedReading rt rd q) where
-  pub reading_store_lem : StoreFits rt q.layers
-  reading_store_lem = accepted_store a.reading.whole a.is
+  pub window_region : RegionOf b e (span_of w.source)
+  window_region = subst (λ (s : Span). RegionOf b e s) (sym source) g
 
-  pub reading_read : {t d : List ℕ} {p : Places} {st : Store} {e : Edit} {r : Span} → Given t d p st e r → {own : Store} → own ≡ store_at rt → Read t d p st e r rt rd q own
-  reading_read g k = record { given = g; reading = a.reading; held = record { accepted = a.reading.whole; is = a.is; stored = k } }
+  pub window_ends : CutsOf b w
+  window_ends = record {
+    start = ap (λ (m : MergeWindow). m.normalized.start) f ∙ ap cut (sym (ap (λ (m : Span). m.start) source));
+    end = ap (λ (m : MergeWindow). m.normalized.end) f ∙ ap cut (sym (ap (λ (m : Span). m.end) source));
+  }
 
-module _ {t d : List ℕ} {p : Places} {st : Store} {e : Edit} {r : Span} (g : Given t d p st e r) (rt rd : List ℕ) {n : ℕ} where
-  pub reading_refused : check_reading rt rd ≡ refused n → fitted (stored_of t d) e (stored_of rt rd) ≡ refused n
+  module _ {n : ℕ} (k : n ≡ reading_number old e (span_of w.source) new) where
+    here : n ≡ reading_number old e r new
+    here = k ∙ ap (λ (s : Span). reading_number old e s new) source
+
+    pub window_refused : 0 < n → refused n ≡ fitting old e r new
+    window_refused h = sym (number_refused old e r new here (λ z. omega (arith, h, z)))
+
+    pub window_fits : n ≡ 0 → accepted (window_value w) ≡ fitting old e r new
+    window_fits z =
+        let is = window_is g refl refl refl new (held_lengths reading.held).normalized w f in
+        ap accepted is ∙ sym (passed_fitting old e r new (number_passed old e r new here z))
+
+-- ---- 8 to 17, of an opened book
+
+module _ (b : Book) (e : Edit) (rt rd : List ℕ) {n : ℕ} where
+  pub region_refused : refused n ≡ chosen_region (book_of b) e → fitted (stored_of b.tape.now b.bytes.now) e (stored_of rt rd) ≡ refused n
   unfolding fitted ◌>>=◌
-  reading_refused q = rw (g.held.accepted.book, g.chosen, q) refl
+  region_refused k = rw (b.held.accepted.book, sym k) refl
 
-  -- 12 to 17
-  pub read_refused : AcceptedReading rt rd → fitting (book_at t (places t) d) e r (book_at rt (places rt) rd) ≡ refused n
-      → fitted (stored_of t d) e (stored_of rt rd) ≡ refused n
-  unfolding fitted ◌>>=◌
-  read_refused a k = rw (g.held.accepted.book, g.chosen, a.reading, k) refl
+  module _ {r : Span} (g : RegionOf b e r) where
+    pub reading_refused : check_reading rt rd ≡ refused n → fitted (stored_of b.tape.now b.bytes.now) e (stored_of rt rd) ≡ refused n
+    unfolding fitted ◌>>=◌
+    reading_refused k = rw (b.held.accepted.book, g.chosen, k) refl
+
+    pub fitting_refused : {reading : Book} → BookOf rt rd reading × AcceptedReading rt rd → refused n ≡ fitting (book_of b) e r (book_of reading)
+        → fitted (stored_of b.tape.now b.bytes.now) e (stored_of rt rd) ≡ refused n
+    unfolding fitted ◌>>=◌
+    fitting_refused h k =
+        let k' = rw (h.0.tape, h.0.bytes) at k in
+        rw (b.held.accepted.book, g.chosen, h.1.reading, sym k') refl
+
+module _ {b : Book} {e : Edit} {r : Span} (g : RegionOf b e r) {rt rd : List ℕ} {reading : Book} (h : BookOf rt rd reading × AcceptedReading rt rd) {w : MergeWindow}
+    (k : accepted w ≡ fitting (book_of b) e r (book_of reading)) where
+  window_passed : (window_of (book_of b) e (book_of reading) r ≡ w) × Passed (book_of b) e r (book_of reading)
+  window_passed = fitting_passed (book_of b) e r (book_of reading) w (sym k)
+
+  source_is : w.source ≡ r
+  unfolding window_of
+  source_is = ap (λ (m : MergeWindow). m.source) (sym window_passed.0)
+
+  pub opened_fits : AreBytes b.tape.now → AreBytes rt → Fits b e w reading
+  opened_fits x y = record {
+    bytes = x;
+    reading_bytes = rw h.0.tape y;
+    reading = rw (h.0.tape, h.0.bytes) h.1;
+    region = rw source_is g.chosen;
+    window = sym window_passed.0 ∙ ap (window_of (book_of b) e (book_of reading)) (sym source_is);
+    passed = rw source_is window_passed.1;
+  }
+
+-- ---- 1 to 17, of a stored book
+
+pub book_refused : (t d : List ℕ) (e : Edit) (rs : Stored) {n : ℕ} → check_book t d ≡ refused n → fitted (stored_of t d) e rs ≡ refused n
+unfolding fitted ◌>>=◌
+book_refused t d e rs k = rw k refl
+
+pub stored_fits : {t d : List ℕ} {b : Book} → BookOf t d b → (e : Edit) (rs : Stored) (x : Result Merging Refusal)
+    → FitsOrRefused (stored_of b.tape.now b.bytes.now) e rs x → FitsOrRefused (stored_of t d) e rs x
+stored_fits h e rs x f = rw (h.tape, h.bytes) at f

@@ -1,26 +1,24 @@
 -- `MergeWindow`: the region in both texts, and how far what lies behind it moves in each, by the code's numbers.
-use Rattle.std.specs.Prelude.{◌≡◌, ℕ, ◌-◌, ◌^◌, ◌≤◌, ◌<◌, List, length, ◌-ℤ◌}
+use Rattle.std.specs.Prelude.{◌≡◌, ℕ, ℤ, ◌-◌, ◌+◌, ◌^◌, ◌≤◌, ◌<◌, List, length, ◌-ℤ◌}
 use Rattle.std.proofs.Common.{sym, ◌∙◌, arith}
 use Rattle.std.proofs.Math.Path.{ap, ap₂}
 use Rattle.std.proofs.Math.IntN.{pos, sub_ℕ}
+use Rattle.model.specs.Limits.{max_text}
 use Rattle.model.specs.Offset.{Span}
 use Rattle.model.specs.Types.{LexOutput, SourceNode}
-use Rattle.model.specs.Tape.{records_at, node_codec, places, book_at}
 use Rattle.model.specs.Region.{Edit}
 use Rattle.model.specs.Merge.{MergeWindow, normalized_offset, change_in_length, window_of}
 use Rattle.laws.specs.Checks.{Chosen, chosen_facts, limit_facts}
 use Rattle.laws.specs.Nodes.{Sound, SafeCut, sound_of, safe_facts, normal_rises, normal_inside}
 use Rattle.commute.specs.Passage.{Bounds, bounds}
-use Rattle.span.specs.Values.{value_of}
+use Rattle.edit.specs.Same.{edited_length}
 use Rattle.span.specs.Shift.{sub_signs}
-use Rattle.span.specs.declared.Amount.{Amount}
-use Rattle.places.specs.declared.Places.{Places}
-use Rattle.store.specs.declared.Store.{Store}
-use Rattle.region.specs.Held.{Held, held_nodes, held_length}
 use Rattle.splice.specs.declared.Window.{Window}
 use Rattle.splice.specs.Window.{window_value}
-use Rattle.fitting.specs.Books.{well_formed_lem}
-use Rattle.fitting.specs.Stages.{Given}
+use Rattle.tape.specs.Held.{held_nodes, held_length}
+use Rattle.tape.specs.StringBytes.{book_of}
+use Rattle.tape.specs.declared.book.Book.{Book}
+use Rattle.fitting.specs.Fits.{nodes_of, RegionOf, well_formed}
 
 -- by the ends of the region in both texts, the replacement's length, the edit, and the length of the reading's normalized text
 abbrev pub window_from : ℕ → ℕ → ℕ → ℕ → ℕ → ℕ → ℕ → ℕ → MergeWindow
@@ -31,23 +29,27 @@ window_from from to normal_start normal_end len start end normalized = record {
   normalized_delta = pos normalized -ℤ pos (normal_end - normal_start);
 }
 
-pub window_made : (from to normal_start normal_end len start end normalized : ℕ) (source_delta normalized_delta : Amount) → value_of source_delta ≡ pos len -ℤ pos (end - start) → value_of normalized_delta ≡ pos normalized -ℤ pos (normal_end - normal_start)
-    → window_value (record { source = record { start = from; end = to }; normalized = record { start = normal_start; end = normal_end }; source_delta = source_delta; normalized_delta = normalized_delta }) ≡ window_from from to normal_start normal_end len start end normalized
-window_made from to normal_start normal_end len start end normalized source_delta normalized_delta e f =
+pub window_made : (from to normal_start normal_end len start end normalized : ℕ) {source_delta normalized_delta : ℤ} → source_delta ≡ pos len -ℤ pos (end - start)
+    → normalized_delta ≡ pos normalized -ℤ pos (normal_end - normal_start)
+    → ◌≡◌ {A = MergeWindow} (record { source = record { start = from; end = to }; normalized = record { start = normal_start; end = normal_end }; source_delta = source_delta; normalized_delta = normalized_delta })
+    (window_from from to normal_start normal_end len start end normalized)
+window_made from to normal_start normal_end len start end normalized e f =
     λ i. record { source = record { start = from; end = to }; normalized = record { start = normal_start; end = normal_end }; source_delta = e i; normalized_delta = f i }
 
 -- the cuts by their definition
 pub window_cuts : {v : MergeWindow} (from to len start end normalized : ℕ) {x y x' y' : ℕ} → v ≡ window_from from to x y len start end normalized → x ≡ x' → y ≡ y' → v ≡ window_from from to x' y' len start end normalized
 window_cuts from to len start end normalized e f g = e ∙ ap₂ (λ (a b : ℕ). window_from from to a b len start end normalized) f g
 
+-- the window's ends in the normalized text are those of its region
+pub record CutsOf (b : Book) (w : Window) : Type 0 where
+  pub start : w.normalized.start.0 ≡ normalized_offset (nodes_of b) w.source.start.0
+  pub end : w.normalized.end.0 ≡ normalized_offset (nodes_of b) w.source.end.0
+
 -- ---- what is known of the region
 
-module _ {t d : List ℕ} {p : Places} {st : Store} {e : Edit} {r : Span} (g : Given t d p st e r) where
+module _ {b : Book} {e : Edit} {r : Span} (g : RegionOf b e r) where
   abbrev old : LexOutput
-  old = book_at t (places t) d
-
-  held : Held t d p st
-  held = g.held
+  old = book_of b
 
   pub given_chosen : Chosen old e r
   given_chosen = chosen_facts old e r g.chosen
@@ -56,7 +58,7 @@ module _ {t d : List ℕ} {p : Places} {st : Store} {e : Edit} {r : Span} (g : G
   region_bounds = let c = given_chosen in rw c.region (bounds old e c.inside)
 
   sound : Sound old
-  sound = sound_of old (well_formed_lem g.held.accepted)
+  sound = sound_of old (well_formed b)
 
   start_safe_lem : SafeCut old r.start
   start_safe_lem = safe_facts sound r.start region_bounds.starts.safe
@@ -69,35 +71,38 @@ module _ {t d : List ℕ} {p : Places} {st : Store} {e : Edit} {r : Span} (g : G
     pub start : r.start ≤ e.start
     pub edit : e.start ≤ e.end
     pub end : e.end ≤ r.end
-    pub text : r.end ≤ p.text
+    pub text : r.end ≤ b.places.text.0
+    pub replacement : length e.replacement ≤ max_text
 
   pub given_inside : Inside
   given_inside =
-      let b = region_bounds in
-      let n = held_length held in
-      record { start = b.starts.before; edit = given_chosen.rising; end = b.ends.behind; text = omega (arith, b.ends.inside, n) }
+      let t = region_bounds in
+      let c = given_chosen in
+      let n = held_length b.held in
+      let m = edited_length old.sanitized e c.rising c.inside in
+      record { start = t.starts.before; edit = c.rising; end = t.ends.behind; text = omega (arith, t.ends.inside, n); replacement = omega (arith, c.limit, m) }
 
-  normal_small : (c : ℕ) → SafeCut old c → c ≤ p.text → {x : ℕ} → x ≡ normalized_offset (records_at node_codec t p.nodes.at p.nodes.count) c → x < 2 ^ 32
+  normal_small : (c : ℕ) → SafeCut old c → c ≤ b.places.text.0 → {x : ℕ} → x ≡ normalized_offset (nodes_of b) c → x < 2 ^ 32
   normal_small c safe h {x} u =
-      let n = held_length held in
-      let k = u ∙ ap (λ (ns : List SourceNode). normalized_offset ns c) (held_nodes held) in
-      let b = normal_inside sound safe (omega (arith, h, n)) in
-      let l = (limit_facts old g.held.accepted.limits).normalized in
-      omega (arith, b, k, l)
+      let n = held_length b.held in
+      let k = u ∙ ap (λ (ns : List SourceNode). normalized_offset ns c) (held_nodes b.held) in
+      let m = normal_inside sound safe (omega (arith, h, n)) in
+      let l = (limit_facts old b.held.accepted.limits).normalized in
+      omega (arith, m, k, l)
 
-  pub start_small : {x : ℕ} → x ≡ normalized_offset (records_at node_codec t p.nodes.at p.nodes.count) r.start → x < 2 ^ 32
+  pub start_small : {x : ℕ} → x ≡ normalized_offset (nodes_of b) r.start → x < 2 ^ 32
   start_small u = let i = given_inside in normal_small r.start start_safe_lem (omega (arith, i.start, i.edit, i.end, i.text)) u
 
-  pub end_small : {y : ℕ} → y ≡ normalized_offset (records_at node_codec t p.nodes.at p.nodes.count) r.end → y < 2 ^ 32
+  pub end_small : {y : ℕ} → y ≡ normalized_offset (nodes_of b) r.end → y < 2 ^ 32
   end_small v = normal_small r.end end_safe_lem given_inside.text v
 
   -- the region in the normalized text
-  module _ {x y : ℕ} (u : x ≡ normalized_offset (records_at node_codec t p.nodes.at p.nodes.count) r.start) (v : y ≡ normalized_offset (records_at node_codec t p.nodes.at p.nodes.count) r.end) where
+  module _ {x y : ℕ} (u : x ≡ normalized_offset (nodes_of b) r.start) (v : y ≡ normalized_offset (nodes_of b) r.end) where
     starts : x ≡ normalized_offset old.source_nodes r.start
-    starts = u ∙ ap (λ (ns : List SourceNode). normalized_offset ns r.start) (held_nodes held)
+    starts = u ∙ ap (λ (ns : List SourceNode). normalized_offset ns r.start) (held_nodes b.held)
 
     ends : y ≡ normalized_offset old.source_nodes r.end
-    ends = v ∙ ap (λ (ns : List SourceNode). normalized_offset ns r.end) (held_nodes held)
+    ends = v ∙ ap (λ (ns : List SourceNode). normalized_offset ns r.end) (held_nodes b.held)
 
     pub normal_order : x ≤ y
     normal_order =

@@ -1,7 +1,7 @@
 -- The flat book's tape and bytes as the parts that are written, and number 18 by what the code tests.
 use Rattle.std.specs.Prelude.{◌≡◌, refl, ℕ, ◌+◌, ◌-◌, ◌*◌, ◌≤◌, take, drop}
 use Rattle.std.proofs.Common.{sym, ap, ap₂, ◌∙◌, subst, arith, length-drop, length-take-le}
-use mathlib.Core.List.{List, ◌++◌, append_assoc, append-nil, flatten}
+use mathlib.Core.List.{List, ◌++◌, append-nil, flatten}
 use Rattle.std.proofs.Math.ListN.{length, length-append}
 use Rattle.model.specs.Limits.{min_work_words}
 use Rattle.model.specs.Bytes.{AreBytes}
@@ -14,17 +14,18 @@ use Rattle.model.specs.Graft.{layer_of, With, graft_node_refs}
 use Rattle.model.specs.Merge.{Room, stored_book, result_ok}
 use Rattle.model.specs.Demand3.{shown}
 use Rattle.model.specs.Flatten.{flat_graft, flat_book, flat_checked}
+use Rattle.facts.specs.Truth.{by_bool}
+use Rattle.facts.specs.Lists.{parted}
 use Rattle.laws.specs.Checks.{limit_facts}
 use Rattle.laws.specs.Parts.{tape_parts, list_parts, rest_bytes, bytes_parts, rest_count, list_count, layers_count, head_stands, rest_stands, texts_stand}
 use Rattle.laws.specs.Result.{ResultFacts, result_facts, result_ok_lem}
-use Rattle.wire.specs.Loops.{by_bool}
 use Rattle.places.specs.declared.Places.{Places}
 use Rattle.places.specs.Found.{found}
 use Rattle.places.specs.Again.{lists_inside}
 use Rattle.store.specs.declared.Store.{Store}
 use Rattle.store.specs.declared.Totals.{Totals}
 use Rattle.store.specs.Lengths.{book_lengths}
-use Rattle.region.specs.Held.{Held, held_texts_inside}
+use Rattle.tape.specs.Held.{Held, held_texts_inside}
 use Rattle.layer.specs.Layered.{grafted_into, source_adds, layer_records, new_layered, LayerSizes, LayerFits}
 use Rattle.layer.specs.Walked.{source_sizes}
 
@@ -75,7 +76,7 @@ module _ {t d : List ℕ} {p : Places} {st : Store} (are : AreBytes t) (h : Held
   lists_there = ap (λ (n : ℕ). drop n t) pairs_at ∙ rest_stands t d are h.accepted.parsed
 
   abbrev pub first : ℕ
-  first = p.text + p.normalized
+  first = p.text.0 + p.normalized.0
 
   texts_there : take first d ≡ old.sanitized ++ old.normalized
   texts_there =
@@ -83,9 +84,6 @@ module _ {t d : List ℕ} {p : Places} {st : Store} (are : AreBytes t) (h : Held
       ap₂ (λ (n m : ℕ). take (n + m) d) (sym l.text) (sym l.normalized) ∙ texts_stand t d are h.accepted.parsed
 
   -- ---- the flat parts
-
-  parted : (x l n r : List ℕ) → x ++ (l ++ (n ++ r)) ≡ (x ++ (l ++ n)) ++ r
-  parted x l n r = simp append_assoc
 
   pub flat_tape : tape_of new ≡ (take 9 t ++ layer_records g) ++ drop p.pairs.at t
   unfolding flat_book shown layer_records rest_bytes flatten

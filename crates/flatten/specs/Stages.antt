@@ -1,25 +1,27 @@
 -- For each return of the code: a refusal, or the flat book where it stands.
 use Rattle.std.specs.Prelude.{◌≡◌, refl, ℕ, ◌+◌, ◌-◌, ◌≤◌, ◌<◌, Bool, true, false, ◌&&◌, List, ◌++◌, length, take, drop, leb, Option, Some, None}
-use Rattle.std.proofs.Common.{sym, ap, ◌∙◌, subst, arith, true≢false, length-append, length-drop, length-take-le, take_all, zero-add}
+use Rattle.std.proofs.Common.{sym, ap, ap₂, ◌∙◌, subst, arith, true≢false, length-append, length-drop, length-take-le, take_all, zero-add}
 use Rattle.std.proofs.Math.Nat.{sub-zero}
 use mathlib.Core.List.{flatten}
 use borrow.Author.Tests.{leb-true, le-leb}
 use Rattle.model.specs.Bytes.{AreBytes}
 use Rattle.model.specs.Types.{SourceNode}
 use Rattle.model.specs.Refusal.{Checked, Checked.refused, Checked.accepted, ◌>>=◌}
-use Rattle.model.specs.Tape.{places, book_at, tape_of, bytes_of}
+use Rattle.model.specs.Tape.{tape_of, bytes_of}
 use Rattle.model.specs.WellFormed.{check_book}
 use Rattle.model.specs.Graft.{With}
 use Rattle.model.specs.Merge.{Stored, stored_of, Room, room_of, stored_book}
 use Rattle.model.specs.Demand3.{shown}
 use Rattle.model.specs.Flatten.{flat_checked, flatten_book}
-use Rattle.laws.specs.Lists.{both}
+use Rattle.facts.specs.Truth.{both}
 use Rattle.wire.specs.Overwrite.{overwrite, take_overwrite, Wrote, wrote_next}
 use Rattle.places.specs.declared.Places.{Places}
 use Rattle.store.specs.declared.Store.{Store}
-use Rattle.tape.specs.Accepted.{Accepted}
+use Rattle.tape.specs.declared.book.Book.{Book}
+use Rattle.tape.specs.Held.{Held, held_texts_inside}
+use Rattle.tape.specs.Opened.{BookOf}
+use Rattle.tape.specs.StringBytes.{book_of}
 use Rattle.copy.specs.declared.Copied.{Copied}
-use Rattle.region.specs.Held.{Held, held_texts_inside}
 use Rattle.layer.specs.declared.Grafted.{Grafted}
 use Rattle.layer.specs.Layered.{grafted_into, layer_records, LayerFits, layer_fits_lem, layer_ok_lem}
 use Rattle.layer.specs.Answers.{LayerMade, LayerTold}
@@ -33,9 +35,14 @@ module _ (t d : List ℕ) (room : Room) where
   unfolding flatten_book ◌>>=◌
   flatten_refused e = rw e refl
 
-  pub flatten_passed : Accepted t d → flatten_book (stored_of t d) room ≡ flat_checked (shown (book_at t (places t) d)) room
+module _ {t d : List ℕ} {b : Book} (h : BookOf t d b) where
+  pub flatten_passed : (room : Room) → flatten_book (stored_of t d) room ≡ flat_checked (shown (book_of b)) room
   unfolding flatten_book ◌>>=◌
-  flatten_passed a = rw a.book refl
+  flatten_passed room = ap₂ (λ (x y : List ℕ). flatten_book (stored_of x y) room) (sym h.tape) (sym h.bytes) ∙ rw b.held.accepted.book refl
+
+  -- the tape is of bytes
+  pub opened_bytes : AreBytes t → AreBytes b.tape.now
+  opened_bytes are = subst AreBytes (sym h.tape) are
 
 -- ---- number 18 before the graft
 

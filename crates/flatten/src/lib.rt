@@ -10,27 +10,23 @@ ghost use Rattle.model.specs.Lookup.{copied_tape, copied_bytes};
 ghost use Rattle.model.specs.Demand3.{shown};
 ghost use Rattle.model.specs.Flatten.{flat_checked, flatten_book};
 ghost use Rattle.refusal.specs.Refusal.{checked};
-ghost use Rattle.region.specs.Books.{book_of};
+ghost use Rattle.tape.specs.StringBytes.{book_of};
 ghost use Rattle.copy.specs.Copying.{copied_of};
 ghost use Rattle.flatten.specs.Answer.{tape_taken, bytes_taken, Written};
 ghost use Rattle.flatten.specs.Stages.{has_room};
 
 use copy::Copied;
 use layer::Place;
+use numbers::{HEAD_SIZE, MIN_WORK_WORDS};
 use refusal::Refusal;
-use region::Book;
 use store::Totals;
-
-const MIN_WORK_WORDS: usize = 16384;
-
-// Section 4. Command 1 and the lengths of both texts.
-const HEAD: usize = 9;
+use tape::Book;
 
 // Number 18 as far as it is known before the graft: the work words, both texts and the head have room.
 fn has_room(text: usize, tape: usize, bytes: usize, work: usize) -> bool
     ensures { result ≡ has_room text tape bytes work }
 {
-    MIN_WORK_WORDS <= work && text <= bytes && HEAD <= tape
+    MIN_WORK_WORDS <= work && text <= bytes && HEAD_SIZE <= tape
 }
 
 // Number 18, and the flat book, of a book that passed 1 to 7. The layer goes above no other, the lists stand as they stood.
@@ -44,24 +40,24 @@ fn flatten_passed(
     ensures { Written (flat_checked (shown (book_of book.now)) (room_of out_tape.old out_bytes.old work.old)) (checked result) out_tape.new out_bytes.new }
 {
     let p = book.places;
-    let text = p.text as usize + p.normalized as usize;
+    let text = p.text.0 as usize + p.normalized.0 as usize;
     if !has_room(text, out_tape.len(), out_bytes.len(), work.len()) {
         return Err(Refusal::NoRoom);
     }
     wire::copy_at(out_bytes, 0, &book.bytes[0..text]);
     // Both texts are as long as they were.
-    wire::copy_at(out_tape, 0, &book.tape[0..HEAD]);
+    wire::copy_at(out_tape, 0, &book.tape[0..HEAD_SIZE]);
     let to = Place {
         below: Totals {
             strings: 0,
             contents: 0,
             segments: 0,
         },
-        at: HEAD,
+        at: HEAD_SIZE,
         base: text,
     };
     let l = layer::graft_layer(book, to, out_tape, work, out_bytes).ok_or(Refusal::NoRoom)?;
-    let at = HEAD + l.len + (p.pairs.at - p.nodes.at);
+    let at = HEAD_SIZE + l.len + (p.pairs.at - p.nodes.at);
     let lists = &book.tape[p.pairs.at..book.tape.len()];
     if out_tape.len() - at < lists.len() {
         return Err(Refusal::NoRoom);
@@ -83,14 +79,7 @@ fn flatten_checked(
 ) -> Result<Copied, Refusal>
     ensures { Written (flatten_book (stored_of tape.now bytes.now) (room_of out_tape.old out_bytes.old work.old)) (checked result) out_tape.new out_bytes.new }
 {
-    let p = tape::checked_book(tape, bytes)?;
-    let store = store::store_of(tape, p.layers);
-    let book = Book {
-        tape,
-        bytes,
-        places: p,
-        store: &store,
-    };
+    let book = tape::open_book(tape, bytes)?;
     flatten_passed(&book, out_tape, out_bytes, work)
 }
 

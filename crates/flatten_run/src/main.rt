@@ -12,6 +12,7 @@ use copy::Copied;
 use edit::Edit;
 use output::IncrementalOutput;
 use refusal::Refusal;
+use span::SourceOffset;
 use std::alloc::Global;
 use std::io;
 use std::io::Read;
@@ -154,8 +155,8 @@ fn merge(book: &Held, lent: &mut Lent, c: cases::Case) -> Result<IncrementalOutp
     let reading_tape = HEAD + wire::u32_or_zero(rest, 16) as usize;
     let reading_bytes = reading_tape + wire::u32_or_zero(rest, 20) as usize;
     let edit = Edit {
-        start: c.start,
-        end: c.end,
+        start: SourceOffset(c.start),
+        end: SourceOffset(c.end),
         replacement: wire::between(rest, HEAD, reading_tape),
     };
     let reading = Stored::new(

@@ -12,10 +12,11 @@ use Rattle.model.specs.Store.{resolve_str, resolve_content_range, resolve_seg_ra
 use Rattle.model.specs.Tape.{Codec, records_at, record_bytes, records_bytes, content_codec, segment_codec}
 use Rattle.model.specs.Tree.{show_contents, show_segments}
 use Rattle.model.specs.Graft.{NewLayer, With, graft_str, graft_contents, graft_segments, push_contents, push_segments}
+use Rattle.laws.specs.Records.{run_length}
 use Rattle.wire.specs.Overwrite.{overwrite}
 use Rattle.interner.specs.State.{Good, state_of, has_room}
 use Rattle.store.specs.declared.Store.{Store}
-use Rattle.store.specs.Standing.{segment_range, content_range_lem, length_records, segment_place, content_place}
+use Rattle.store.specs.Standing.{segment_range, content_range_lem, segment_place, content_place}
 use Rattle.ids.specs.Tests.{contents_in, segments_in}
 use Rattle.sizes.specs.Added.{Added}
 use Rattle.sizes.specs.Trees.{length_segments, length_contents}
@@ -70,7 +71,7 @@ module _ (l : ℕ) (t d : List ℕ) (x : Content) (f : NewLayer) where
       let r = graft_segments ss f in
       let at = push_segments r.0 r.1 in
       let k : length r.0 ≡ x.second = length_segments ss f ∙ segments_shown (show_inner l (source_store t d)) run
-      ∙ ap length (segment_range t st s.fit.stored (drop (word_at t 1 + word_at t 5) d) x.first x.second h) ∙ length_records segment_codec t (segment_place st x.first) x.second in
+      ∙ ap length (segment_range t st s.fit.stored (drop (word_at t 1 + word_at t 5) d) x.first x.second h) ∙ run_length segment_codec t (segment_place st x.first) x.second in
       rw (ne_eqb x.tag 0 n) (λ i. (record { tag = 1; first = at.0; second = k i } ∷ [], at.1))
 
 -- ---- one item, whatever its kind
@@ -107,7 +108,7 @@ module _ (l : ℕ) {t d : List ℕ} {st : Store} (source : Source t d st) {p : P
       let is : records_at content_codec t at len ≡ resolve_content_range (source_store t d) start len =
       ap (λ (n : ℕ). records_at content_codec t n len) e ∙ sym (content_range_lem t st source.fit.stored (drop (word_at t 1 + word_at t 5) d) start len h) in
       let w = shown_contents l t d (records_at content_codec t at len) f in
-      let n : length w.0 ≡ len = length_contents (show_contents show (source_store t d) (records_at content_codec t at len)) f ∙ contents_shown show (source_store t d) (records_at content_codec t at len) ∙ length_records content_codec t at len in
+      let n : length w.0 ≡ len = length_contents (show_contents show (source_store t d) (records_at content_codec t at len)) f ∙ contents_shown show (source_store t d) (records_at content_codec t at len) ∙ run_length content_codec t at len in
       rw (← is) (record {
         told = record {
           room = b.room;
@@ -140,7 +141,7 @@ module _ (l : ℕ) {t d : List ℕ} {st : Store} (source : Source t d st) {p : P
       let is : records_at segment_codec t at len ≡ resolve_seg_range (source_store t d) start len =
       ap (λ (n : ℕ). records_at segment_codec t n len) e ∙ sym (segment_range t st source.fit.stored (drop (word_at t 1 + word_at t 5) d) start len h) in
       let w = shown_segments l t d (records_at segment_codec t at len) f in
-      let n : length w.0 ≡ len = length_segments (show_segments show (records_at segment_codec t at len)) f ∙ segments_shown show (records_at segment_codec t at len) ∙ length_records segment_codec t at len in
+      let n : length w.0 ≡ len = length_segments (show_segments show (records_at segment_codec t at len)) f ∙ segments_shown show (records_at segment_codec t at len) ∙ run_length segment_codec t at len in
       rw (← is) (record {
         told = record {
           room = b.room;

@@ -17,8 +17,9 @@ use Rattle.model.specs.Store.{NodeStore, resolve_content_range, resolve_seg_rang
 use Rattle.model.specs.Tape.{Field, fields_of, content_codec, segment_codec}
 use Rattle.model.specs.Tree.{show_segments, show_contents, show_fields, show_with, show_body}
 use Rattle.model.specs.Graft.{NewLayer, graft_node, graft_fields, graft_segments, push_contents, push_segments}
-use Rattle.wire.specs.Loops.{by_bool}
-use Rattle.store.specs.Standing.{segment_range, content_range_lem, length_records, segment_place, content_place}
+use Rattle.facts.specs.Truth.{by_bool}
+use Rattle.laws.specs.Records.{run_length}
+use Rattle.store.specs.Standing.{segment_range, content_range_lem, segment_place, content_place}
 use Rattle.store.specs.declared.Store.{Store}
 use Rattle.records.specs.Uses.{word_use}
 use Rattle.ids.specs.Tests.{contents_in, segments_in, used_well}
@@ -82,13 +83,13 @@ module _ (l : ℕ) (t d : List ℕ) (st : Store) (source : Source t d st) where
   contents_long start len f h =
       let run = resolve_content_range (source_store t d) start len in
       length_contents (show_contents (show_inner l (source_store t d)) (source_store t d) run) f ∙ contents_shown (show_inner l (source_store t d)) (source_store t d) run
-      ∙ ap length (content_range_lem t st source.fit.stored (drop (word_at t 1 + word_at t 5) d) start len h) ∙ length_records content_codec t (content_place st start) len
+      ∙ ap length (content_range_lem t st source.fit.stored (drop (word_at t 1 + word_at t 5) d) start len h) ∙ run_length content_codec t (content_place st start) len
 
   segments_long : (start len : ℕ) (f : NewLayer) → segments_in st start len ≡ true → length (shown_segments l t d (resolve_seg_range (source_store t d) start len) f).0 ≡ len
   segments_long start len f h =
       let run = resolve_seg_range (source_store t d) start len in
       length_segments (show_segments (show_inner l (source_store t d)) run) f ∙ segments_shown (show_inner l (source_store t d)) run
-      ∙ ap length (segment_range t st source.fit.stored (drop (word_at t 1 + word_at t 5) d) start len h) ∙ length_records segment_codec t (segment_place st start) len
+      ∙ ap length (segment_range t st source.fit.stored (drop (word_at t 1 + word_at t 5) d) start len h) ∙ run_length segment_codec t (segment_place st start) len
 
   module _ (b : Body) (i : ℕ) (ws : List ℕ) (f : NewLayer) where
     abbrev field_of : ℕ → UsedWords

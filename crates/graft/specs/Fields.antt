@@ -13,7 +13,7 @@ use Rattle.model.specs.Store.{resolve_str}
 use Rattle.model.specs.Tape.{Field, fields_of}
 use Rattle.model.specs.Tree.{show_fields}
 use Rattle.model.specs.Graft.{NewLayer, graft_str, graft_fields}
-use Rattle.wire.specs.Loops.{by_bool}
+use Rattle.facts.specs.Truth.{by_bool}
 use Rattle.store.specs.declared.Store.{Store}
 use Rattle.records.specs.Values.{body_at}
 use Rattle.records.specs.Uses.{word_use}

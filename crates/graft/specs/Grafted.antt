@@ -5,14 +5,14 @@ use Rattle.std.proofs.Common.{sym, ap, ap₂, ◌∙◌, arith, true≢false, le
 use mathlib.Core.List.{List, [], flatten}
 use Rattle.model.specs.Tape.{records_bytes, content_codec, segment_codec}
 use Rattle.model.specs.Graft.{NewLayer}
-use Rattle.wire.specs.Loops.{by_bool}
+use Rattle.facts.specs.Truth.{by_bool}
+use Rattle.laws.specs.Parts.{bytes_append}
 use Rattle.interner.specs.State.{state_of, Good, has_room}
 use Rattle.graft.specs.Rebased.{rebased, behind, SameOffsets}
 use Rattle.graft.specs.Blocks.{blocks, blocks_then}
 use Rattle.graft.specs.Named.{Named}
 use Rattle.graft.specs.declared.Plan.{Plan}
 use Rattle.graft.specs.declared.Mark.{Mark}
-use Rattle.put_records.specs.Runs.{bytes_append}
 
 -- the layer so far, by the code's numbers: its numbers begin behind what was pushed
 abbrev pub layer_from : Plan → List ℕ → List ℕ → Mark → NewLayer

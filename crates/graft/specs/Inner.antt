@@ -7,7 +7,7 @@ use Rattle.model.specs.Bytes.{word_at}
 use Rattle.model.specs.Store.{resolve_content_range, resolve_seg_range}
 use Rattle.model.specs.Tape.{records_at, content_codec, segment_codec}
 use Rattle.model.specs.Graft.{push_contents, push_segments}
-use Rattle.laws.specs.Lists.{all_take, all_drop}
+use Rattle.facts.specs.Keep.{all_take, all_drop}
 use Rattle.store.specs.Standing.{content_place, segment_place, content_range_lem, segment_range}
 use Rattle.store.specs.declared.Store.{Store}
 use Rattle.ids.specs.Tests.{content_in, segment_in, contents_in, segments_in}

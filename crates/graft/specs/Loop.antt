@@ -8,10 +8,11 @@ use mathlib.Core.List.{List, [], ◌∷◌, ◌++◌, flatten}
 use Rattle.model.specs.Lists.{all}
 use Rattle.model.specs.Tape.{Codec, record_size, record_at, records_at, records_bytes}
 use Rattle.model.specs.Graft.{NewLayer, With}
+use Rattle.facts.specs.Truth.{by_bool}
+use Rattle.laws.specs.Records.{run_length}
 use Rattle.wire.specs.Overwrite.{overwrite_nil}
-use Rattle.wire.specs.Loops.{by_bool}
 use Rattle.interner.specs.State.{has_room}
-use Rattle.store.specs.Standing.{length_records}
+use Rattle.records.specs.Runs.{run_at}
 use Rattle.sizes.specs.Added.{Added, add, add_all, all_append}
 use Rattle.sizes.specs.Trees.{Grew}
 use Rattle.graft.specs.Rebased.{Steps, rebased, behind}
@@ -24,7 +25,7 @@ use Rattle.graft.specs.Answers.{told_none}
 use Rattle.graft.specs.Records.{records_add}
 use Rattle.graft.specs.declared.Plan.{Plan}
 use Rattle.graft.specs.declared.Mark.{Mark}
-use Rattle.put_records.specs.Runs.{all_first, records_more, records_parts, records_in_lem}
+use Rattle.put_records.specs.Runs.{all_first, records_more, records_parts}
 
 -- A kind of record of the source t, of `size` bytes: the graft of a list of them, what number 4 says of each, and what it adds.
 pub record Grafts {A : Type 0} (t : List ℕ) (k : Codec A) (size : ℕ) (run : List A → NewLayer → With (List A)) (known : A → Bool) (adds : A → Added) (sum : ℕ → ℕ → Added) : Type 0 where
@@ -93,7 +94,7 @@ module _ {A : Type 0} {t : List ℕ} {k : Codec A} {size : ℕ} {run : List A �
     others i j = add_all adds (records_parts k t at i count j).rest
 
     items_bytes : (i : ℕ) → length (records_bytes k (items i).0) ≡ size * i
-    items_bytes i = w.bytes (records_at k t at i) (layer_from p work strs m) ∙ ap (λ (n : ℕ). size * n) (length_records k t at i)
+    items_bytes i = w.bytes (records_at k t at i) (layer_from p work strs m) ∙ ap (λ (n : ℕ). size * n) (run_length k t at i)
 
     first_adds : (i : ℕ) (j : i ≤ count) → sum at count ≡ add (sum at i) (others i j)
     first_adds i j =
@@ -127,7 +128,7 @@ module _ {A : Type 0} {t : List ℕ} {k : Codec A} {size : ℕ} {run : List A �
         record { long = refl; told = rw (w.none (layer_from p work strs m)) (record { room = e.room; made = λ o. record { under = out; made = e.made o; wrote = overwrite_nil out place } }) }
 
     pub item_known : (i : ℕ) → i < count → known (item i) ≡ true
-    item_known i j = ap known (sym (item_is i)) ∙ records_in_lem k t at known i count j h
+    item_known i j = ap known (sym (item_is i)) ∙ run_at k known t at count i h j
 
     pub items_refused : {out' work' strs' : List ℕ} {u : Mark} (i : ℕ) → i ≤ count → ItemsTold t d k p m place out work strs out' work' strs' u false (items i)
         → ItemsTold t d k p m place out work strs out' work' strs' u false (items count)

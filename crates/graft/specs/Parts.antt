@@ -10,7 +10,7 @@ use Rattle.model.specs.WellFormed.{word_of}
 use Rattle.model.specs.Tape.{Field, Field.str, Field.opt_str, Field.content_range, Field.seg_range}
 use Rattle.model.specs.Tree.{Tree, show_segments, show_contents, show_fields}
 use Rattle.model.specs.Graft.{NewLayer, With, graft_str, push_contents, push_segments, graft_node, graft_fields, graft_contents, graft_segments}
-use Rattle.wire.specs.Loops.{by_bool}
+use Rattle.facts.specs.Truth.{by_bool}
 
 module _ (show : Body → Tree) (s : NodeStore) where
   pub fields_then : (b : Body) (xs ys : List Field) (ws : List ℕ) (f : NewLayer)

@@ -8,6 +8,7 @@ use Rattle.std.proofs.Math.ListN.{length-append}
 use Rattle.model.specs.Types.{Content, Segment}
 use Rattle.model.specs.Tape.{Codec, records_bytes, content_codec, segment_codec}
 use Rattle.model.specs.Graft.{NewLayer, With, push_contents, push_segments}
+use Rattle.laws.specs.Parts.{bytes_append}
 use Rattle.wire.specs.Overwrite.{overwrite, overwrite_next}
 use Rattle.interner.specs.State.{has_room}
 use Rattle.graft.specs.Rebased.{behind}
@@ -15,7 +16,6 @@ use Rattle.graft.specs.Blocks.{blocks, length_blocks, Apart, apart_less, apart_i
 use Rattle.graft.specs.Grafted.{content_at, segment_at, laid, Sized, Roomy, Made, made_then}
 use Rattle.graft.specs.declared.Plan.{Plan}
 use Rattle.graft.specs.declared.Mark.{Mark}
-use Rattle.put_records.specs.Runs.{bytes_append}
 
 -- the items so far, their records from the byte `place` on; `made` is the walk without the items, on the tape `under` them
 pub record ItemsSoFar {A : Type 0} (t d : List ℕ) (k : Codec A) (p : Plan) (m : Mark) (place : ℕ) (out work strs out' work' strs' : List ℕ) (r : Mark) (items : List A) (g : NewLayer) : Type 0 where

@@ -23,10 +23,11 @@ use Rattle.graft.specs.Named.{source_store, ShowsAs}
 use Rattle.graft.specs.Walk.{Source, string_from, index_words, StartTold}
 use Rattle.graft.specs.declared.Plan.{Plan}
 use Rattle.graft.specs.declared.Mark.{Mark}
+use Rattle.span.specs.declared.StrId.{StrId}
 use Rattle.store.specs.Pools.{before_next, before_most}
 use Rattle.store.specs.Standing.{all_lengths, length_at, string_at_lem}
 use Rattle.store.specs.declared.Store.{Store}
-use Rattle.strings.specs.Starts.{OfTape, Readable, lengths_bytes, readable}
+use Rattle.strings.specs.Starts.{lengths_bytes}
 
 -- the index, as the code lends it
 pub index_lent : (work : List ℕ) → take (length work - 15360) (drop 15360 work) ≡ index_words work
@@ -40,13 +41,6 @@ module _ {t d : List ℕ} {st : Store} (s : Source t d st) where
   pub strings_end_lem : word_at t 1 + word_at t 5 + sum (all_lengths t (places t).layers) ≡ length d
   unfolding bytes_needed
   strings_end_lem = let e = lengths_bytes t (places t).layers in omega (arith, e, s.framing.bytes)
-
-  -- as crate `strings` asks
-  pub source_tape : OfTape t st
-  source_tape = record { stored = s.fit.stored; few = s.fit.few; inside = s.fit.inside }
-
-  pub source_readable : length d < 2 ^ 63 → Readable t st (length d)
-  source_readable h = readable t d s.framing st s.fit.stored s.fit.few h
 
   module _ (id : ℕ) (h : id < st.totals.strings) where
     pub from_small_lem : string_from t id ≤ length d
@@ -79,7 +73,7 @@ unfolding cache_hit bypass table_alloc table_hit
 id_known t s = each_way (λ (a : Interned). a.id ≤ a.state.last) t s (omega arith) (omega arith) (λ table resized p. omega arith) (λ table resized p. omega arith)
 
 module _ (p : Plan) (m : Mark) (work strs work' strs' s : List ℕ) (u : Interner) where
-  pub id_small : (id : ℕ) → InternTold work strs m.state work' strs' u (Some id) (intern (state_of work strs m.state) s) → id < 2 ^ 12
+  pub id_small : (id : StrId) → InternTold work strs m.state work' strs' u (Some id) (intern (state_of work strs m.state) s) → id.0 < 2 ^ 12
   id_small id told =
       let r = told.answered id refl in
       let k = id_known (state_of work strs m.state) s in
@@ -92,8 +86,8 @@ module _ (p : Plan) (m : Mark) (work strs work' strs' s : List ℕ) (u : Interne
     unfolding graft_str
     str_refused told = rw (← q) (record { told = record { room = told.room; made = λ o. absurd (true≢false (sym o)) }; start = λ k o. absurd (none-some k o) })
 
-    pub str_answer_lem : Good work strs m.state → length strs' ≡ length strs → (known : Option ℕ) → ShowsAs t d known id → (a : ℕ) → InternTold work strs m.state work' strs' u (Some a) (intern (state_of work strs m.state) s)
-        → StartTold t d p m out work strs out work' strs' (record { contents = m.contents; segments = m.segments; state = u; answered = known }) (Some (p.strings + a)) (graft_str (resolve_str (source_store t d) id) (layer_from p work strs m))
+    pub str_answer_lem : Good work strs m.state → length strs' ≡ length strs → (known : Option StrId) → ShowsAs t d known id → (a : StrId) → InternTold work strs m.state work' strs' u (Some a) (intern (state_of work strs m.state) s)
+        → StartTold t d p m out work strs out work' strs' (record { contents = m.contents; segments = m.segments; state = u; answered = known }) (Some (p.strings + a.0)) (graft_str (resolve_str (source_store t d) id) (layer_from p work strs m))
     unfolding graft_str records_bytes flatten
     str_answer_lem good long known shows a told =
         let y = told.answered a refl in
@@ -116,5 +110,5 @@ module _ (p : Plan) (m : Mark) (work strs work' strs' s : List ℕ) (u : Interne
                   ∙ last_holds (state_of work strs m.state) s;
             };
           };
-          start = λ k o. sym (same_Some (p.strings + a) k o) ∙ ap (λ (n : ℕ). p.strings + n) y.id_is;
+          start = λ k o. sym (same_Some (p.strings + a.0) k o) ∙ ap (λ (n : ℕ). p.strings + n) y.id_is;
         })

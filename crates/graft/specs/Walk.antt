@@ -1,5 +1,5 @@
 -- What each function of the writing walk is told of its source and its room, and what it answers.
-use Rattle.std.specs.Prelude.{◌≡◌, Bool, Option, Some, is_some, ℕ, ◌+◌, ◌*◌, ◌≤◌, ◌<◌, ◌^◌, true, cond, List, length, take, drop, set, replicate, eqb}
+use Rattle.std.specs.Prelude.{◌≡◌, Bool, Option, Some, None, is_some, ℕ, ◌+◌, ◌*◌, ◌≤◌, ◌<◌, ◌^◌, true, cond, List, length, take, drop, set, replicate, eqb}
 use Rattle.model.specs.Lists.{all, sum}
 use Rattle.model.specs.Limits.{no_string}
 use Rattle.model.specs.Bytes.{word_at}
@@ -9,6 +9,7 @@ use Rattle.model.specs.Tape.{places, content_codec, segment_codec}
 use Rattle.model.specs.Tree.{show_segments, show_contents, show_fields}
 use Rattle.model.specs.Graft.{NewLayer, With, graft_str, push_contents, push_segments, graft_fields, graft_contents, graft_segments}
 use Rattle.places.specs.Again.{Frame}
+use Rattle.span.specs.declared.StrId.{StrId}
 use Rattle.store.specs.Standing.{all_lengths}
 use Rattle.store.specs.declared.Store.{Store}
 use Rattle.strings.specs.Starts.{lengths_in}
@@ -62,6 +63,11 @@ pub record Space (p : Plan) (m : Mark) (size : ℕ) (a : Added) : Type 0 where
   pub calls : m.state.stats.calls + a.calls < 2 ^ 32
 
 -- ---- answers
+
+-- an id as a word of the tape
+abbrev pub id_word : Option StrId → Option ℕ
+id_word (Some id) = Some id.0
+id_word None = None
 
 -- a string's id, or a run's start, beside the walk's own answer
 pub record StartTold (t d : List ℕ) (p : Plan) (m : Mark) (out work strs out' work' strs' : List ℕ) (r : Mark) (x : Option ℕ) (a : With ℕ) : Type 0 where

@@ -9,17 +9,12 @@ use Rattle.model.specs.Tape.{record_bytes, records_bytes, operand_bytes, content
 use Rattle.model.specs.Tree.{Tree, Tree.tree, Fields, Fields.done, Fields.text, Fields.absent, Fields.contents, Fields.segments}
 use Rattle.model.specs.Tree.{Contents, Contents.no_content, Contents.plain, Contents.segmented, Segments, Segments.no_segment, Segments.segment}
 use Rattle.model.specs.Graft.{NewLayer, graft_str, push_contents, push_segments, graft_node, graft_fields, graft_contents, graft_segments}
+use Rattle.laws.specs.Parts.{records_width, bytes_append}
 use Rattle.graft.specs.Grafted.{Sized}
-use Rattle.put_records.specs.Runs.{bytes_append}
-
-content_width : (c : Content) → length (record_bytes content_codec c) ≡ 10
-unfolding record_bytes operand_bytes content_codec word_bytes
-content_width c = refl
 
 pub contents_width : (cs : List Content) → length (records_bytes content_codec cs) ≡ 10 * length cs
-unfolding records_bytes flatten
-contents_width [] = refl
-contents_width (c ∷ cs) = length-append (record_bytes content_codec c) (records_bytes content_codec cs) ∙ (let a = content_width c in let b = contents_width cs in omega (arith, a, b))
+unfolding content_codec
+contents_width = records_width content_codec (λ c. refl)
 
 -- ---- six words
 

@@ -23,15 +23,17 @@ ghost use Rattle.sizes.specs.InPlace.{inner_adds, body_adds, place_adds, used_ad
 ghost use Rattle.graft.specs.Grafted.{layer_from};
 ghost use Rattle.graft.specs.Walk.{Ready, body_from, place_from, content_run_from, segment_run_from, field_from};
 ghost use Rattle.graft.specs.Named.{source_store, Named};
-ghost use Rattle.graft.specs.Walk.{Source, index_words, string_from, shown_contents, shown_segments, StartTold, id_from, WordsTold, ContentsTold, SegmentsTold};
+ghost use Rattle.graft.specs.Walk.{Source, index_words, string_from, id_word, shown_contents, shown_segments, StartTold, id_from, WordsTold, ContentsTold, SegmentsTold};
 ghost use Rattle.records.specs.Uses.{use_number};
 ghost use Rattle.sizes.specs.Words.{words_of};
 
 use ids::NO_STRING;
 use interner::StrInterner;
+use numbers::{CONTENT_SIZE, INDEX_AT, SEGMENT_SIZE};
 use places::Run;
 use records::{Body, Content, Segment, Use};
 pub use source::Walk;
+use span::StrId;
 
 // The tag of a content that is a run of segments. `Source` says what such a content's numbers are, and nothing of its tag.
 const SEGMENTS: u8 = 1;
@@ -62,7 +64,7 @@ pub struct Mark {
     pub contents: u32,
     pub segments: u32,
     pub state: StrInterner,
-    pub answered: Option<u32>,
+    pub answered: Option<StrId>,
 }
 
 // ---- strings. What is asked of the index and of the interner stands at each function, for its buffers are lent one by one, as those of the
@@ -70,10 +72,10 @@ pub struct Mark {
 // `Strings` can lend the index while a string is interned, and its bytes are cut out here.
 
 // Where the bytes of a string of the source begin; `words` are the index of its strings.
-fn string_from(w: &Walk<'_>, words: &[u32], id: u32) -> usize
+fn string_from(w: &Walk<'_>, words: &[u32], id: StrId) -> usize
     requires indexed { Indexed (lengths_in w.now.tape.now) words.now }
-    requires id_lt_strings { id < w.now.st.now.totals.strings }
-    ensures { result ≡ string_from w.now.tape.now id }
+    requires id_lt_strings { id.0 < w.now.st.now.totals.strings }
+    ensures { result ≡ string_from w.now.tape.now id.0 }
 {
     let start = strings::string_start(w.tape, w.st, w.bytes.len(), words, id);
     let text = wire::u32_at(w.tape, 1) as usize;
@@ -88,47 +90,53 @@ fn intern_str(
     strs: &mut [u8],
     state: &mut StrInterner,
     is_last: bool,
-    id: u32,
-) -> Option<u32>
+    id: StrId,
+) -> Option<StrId>
     requires indexed { Indexed (lengths_in w.now.tape.now) (index_words work.old) }
     requires good { Good work.old strs.old state.old }
-    requires id_lt_strings { (id < w.now.st.now.totals.strings) × (state.old.stats.calls < 2 ^ 32) }
-    requires last { is_last ≡ true → holds (state_of work.old strs.old state.old).strings state.old.last (resolve_str (source_store w.now.tape.now w.now.bytes.now) id) ≡ true }
+    requires id_lt_strings { (id.0 < w.now.st.now.totals.strings) × (state.old.stats.calls < 2 ^ 32) }
+    requires last { is_last ≡ true → holds (state_of work.old strs.old state.old).strings state.old.last (resolve_str (source_store w.now.tape.now w.now.bytes.now) id.0) ≡ true }
     ensures { InternTold work.old strs.old state.old work.new strs.new state.new result
-        (intern (state_of work.old strs.old state.old) (resolve_str (source_store w.now.tape.now w.now.bytes.now) id)) }
+        (intern (state_of work.old strs.old state.old) (resolve_str (source_store w.now.tape.now w.now.bytes.now) id.0)) }
 {
     if is_last {
         return Some(intern::intern_last(state));
     }
-    let from = string_from(w, &work[15360..], id);
+    let from = string_from(w, &work[INDEX_AT..], id);
     let len = strings::string_length(w.tape, w.st, id);
     intern::intern(state, work, strs, &w.bytes[from..from + len])
 }
 
 // Is this the representative of the last answer's string?
 #[tactic(auto, unfolding(strings::specs::PlainContent::same_known))]
-fn is_answered(known: Option<u32>, answered: Option<u32>) -> bool
+fn is_answered(known: Option<StrId>, answered: Option<StrId>) -> bool
     ensures { result ≡ same_known known answered }
 {
     known.is_some() && known == answered
 }
 
 // Section 5. `graft_str`. Where the representative is that of the last answer's string, nothing is compared.
-fn graft_str(w: &Walk<'_>, work: &mut [u32], strs: &mut [u8], m: &mut Mark, id: u32) -> Option<u32>
+fn graft_str(
+    w: &Walk<'_>,
+    work: &mut [u32],
+    strs: &mut [u8],
+    m: &mut Mark,
+    id: StrId,
+) -> Option<StrId>
     requires indexed { Indexed (lengths_in w.now.tape.now) (index_words work.old) }
     requires good { Good work.old strs.old m.old.state × Named w.now.tape.now w.now.bytes.now work.old strs.old m.old }
-    requires id_lt_strings { (id < w.now.st.now.totals.strings) × (m.old.state.stats.calls < 2 ^ 32) × (w.now.plan.strings + 2 ^ 12 < 2 ^ 32) }
-    ensures { (out : List ℕ) → StartTold w.now.tape.now w.now.bytes.now w.now.plan m.old out work.old strs.old out work.new strs.new m.new result
-        (graft_str (resolve_str (source_store w.now.tape.now w.now.bytes.now) id) (layer_from w.now.plan work.old strs.old m.old)) }
+    requires id_lt_strings { (id.0 < w.now.st.now.totals.strings) × (m.old.state.stats.calls < 2 ^ 32) × (w.now.plan.strings + 2 ^ 12 < 2 ^ 32) }
+    ensures { (out : List ℕ) → StartTold w.now.tape.now w.now.bytes.now w.now.plan m.old out work.old strs.old out work.new strs.new m.new (id_word result)
+        (graft_str (resolve_str (source_store w.now.tape.now w.now.bytes.now) id.0) (layer_from w.now.plan work.old strs.old m.old)) }
 {
     let known = representatives::representative(w.pairs, id);
     let is_last = is_answered(known, m.answered);
     let string = intern_str(w, work, strs, &mut m.state, is_last, id)?;
     m.answered = known;
-    Some(w.plan.strings + string)
+    Some(StrId(w.plan.strings + string.0))
 }
 
-// The word of a field that is no run: a string's id, or NO_STRING where an optional one is missing, as on the tape. Of a field that is no
+// The id of a field that is no run: a string's, or NO_STRING where an optional one is missing, as on the tape. Of a field that is no
 // string it is 0, which `with_words` does not write.
 fn graft_string(
     w: &Walk<'_>,
@@ -136,14 +144,14 @@ fn graft_string(
     strs: &mut [u8],
     m: &mut Mark,
     usage: Use,
-    id: u32,
-) -> Option<u32>
+    id: StrId,
+) -> Option<StrId>
     requires indexed { Indexed (lengths_in w.now.tape.now) (index_words work.old) }
     requires good { Good work.old strs.old m.old.state × Named w.now.tape.now w.now.bytes.now work.old strs.old m.old }
     requires has_room { has_room (length strs.old) m.old.state.base (state_of work.old strs.old m.old.state) ≡ true }
-    requires id_value { (used_well w.now.st.now (use_number usage) id 0 ≡ true) × (m.old.state.stats.calls < 2 ^ 32) × (w.now.plan.strings + 2 ^ 12 < 2 ^ 32) }
-    ensures { (out : List ℕ) → StartTold w.now.tape.now w.now.bytes.now w.now.plan m.old out work.old strs.old out work.new strs.new m.new result
-        (id_from w.now.tape.now w.now.bytes.now (use_number usage) id (layer_from w.now.plan work.old strs.old m.old)) }
+    requires id_value { (used_well w.now.st.now (use_number usage) id.0 0 ≡ true) × (m.old.state.stats.calls < 2 ^ 32) × (w.now.plan.strings + 2 ^ 12 < 2 ^ 32) }
+    ensures { (out : List ℕ) → StartTold w.now.tape.now w.now.bytes.now w.now.plan m.old out work.old strs.old out work.new strs.new m.new (id_word result)
+        (id_from w.now.tape.now w.now.bytes.now (use_number usage) id.0 (layer_from w.now.plan work.old strs.old m.old)) }
 {
     match usage {
         Use::Str => graft_str(w, work, strs, m, id),
@@ -152,7 +160,7 @@ fn graft_string(
         } else {
             graft_str(w, work, strs, m, id)
         },
-        _ => Some(0),
+        _ => Some(StrId(0)),
     }
 }
 
@@ -243,7 +251,7 @@ fn graft_field(
     match f.usage {
         Use::Contents => graft_content_run(w, out, work, strs, m, f.first, f.second, level),
         Use::Segments => graft_segment_run(w, out, work, strs, m, f.first, f.second, level),
-        _ => graft_string(w, work, strs, m, f.usage, f.first),
+        _ => Some(graft_string(w, work, strs, m, f.usage, StrId(f.first))?.0),
     }
 }
 
@@ -301,7 +309,16 @@ fn graft_contents(
         (shown_contents level w.now.tape.now w.now.bytes.now (records_at content_codec w.now.tape.now run.at run.count) (layer_from w.now.plan work.old strs.old m.old)) }
 {
     for i in 0..run.count {
-        graft_content(w, out, work, strs, m, run.at + 10 * i, to + i as u32, level)?;
+        graft_content(
+            w,
+            out,
+            work,
+            strs,
+            m,
+            run.at + CONTENT_SIZE * i,
+            to + i as u32,
+            level,
+        )?;
     }
     Some(())
 }
@@ -325,11 +342,11 @@ fn graft_content(
         (shown_contents level w.now.tape.now w.now.bytes.now (record_at content_codec w.now.tape.now at ∷ []) (layer_from w.now.plan work.old strs.old m.old)) }
 {
     let c = records::content_at(w.tape, at);
-    let place = w.plan.contents_at + 10 * (to as usize);
+    let place = w.plan.contents_at + CONTENT_SIZE * (to as usize);
     if c.is_plain() {
-        let id = graft_str(w, work, strs, m, c.first)?;
+        let id = graft_str(w, work, strs, m, StrId(c.first))?;
         let plain = Content {
-            first: id,
+            first: id.0,
             second: 0,
             ..c
         };
@@ -399,7 +416,16 @@ fn graft_segments(
         (shown_segments level w.now.tape.now w.now.bytes.now (records_at segment_codec w.now.tape.now run.at run.count) (layer_from w.now.plan work.old strs.old m.old)) }
 {
     for i in 0..run.count {
-        graft_segment(w, out, work, strs, m, run.at + 37 * i, to + i as u32, level)?;
+        graft_segment(
+            w,
+            out,
+            work,
+            strs,
+            m,
+            run.at + SEGMENT_SIZE * i,
+            to + i as u32,
+            level,
+        )?;
     }
     Some(())
 }
@@ -422,7 +448,7 @@ fn graft_segment(
     ensures { SegmentsTold w.now.tape.now w.now.bytes.now w.now.plan m.old to out.old work.old strs.old out.new work.new strs.new m.new (is_some result)
         (shown_segments level w.now.tape.now w.now.bytes.now (record_at segment_codec w.now.tape.now at ∷ []) (layer_from w.now.plan work.old strs.old m.old)) }
 {
-    let place = w.plan.segments_at + 37 * (to as usize);
+    let place = w.plan.segments_at + SEGMENT_SIZE * (to as usize);
     let s = records::segment_at(w.tape, at);
     if level == 0 {
         put_records::put_segment(out, place, Segment { body: NO_BODY, ..s });

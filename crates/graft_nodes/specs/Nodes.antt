@@ -10,6 +10,7 @@ use Rattle.model.specs.Tape.{Field, fields_of, node_fields, record_at, operands_
 use Rattle.model.specs.Tree.{show_node, shown_node, show_with, show_fields}
 use Rattle.model.specs.Graft.{NewLayer, With, graft_node, graft_node_ref, graft_node_refs, graft_fields}
 use Rattle.wire.specs.Overwrite.{overwrite}
+use Rattle.span.specs.Values.{span_of}
 use Rattle.records.specs.Values.{body_at, node_body, source_node_of}
 use Rattle.records.specs.declared.SourceNode.{SourceNode as SourceNodeRead}
 use Rattle.store.specs.declared.Store.{Store}
@@ -84,8 +85,8 @@ module _ (t d : List ℕ) (st : Store) (at : ℕ) where
       with_own ws = record {
         class = n.class;
         inline = n.inline;
-        source_span = record { start = n.start; end = n.end };
-        normalized_offset = n.offset;
+        source_span = span_of n.source_span;
+        normalized_offset = n.normalized_offset.0;
         body = record { kind = n.body.kind; tag = n.body.tag; plain1 = n.body.plain1; plain2 = n.body.plain2; words = ws };
       }
 

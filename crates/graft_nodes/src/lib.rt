@@ -14,6 +14,7 @@ ghost use Rattle.graft.specs.Walk.{Ready};
 ghost use Rattle.graft.specs.Walk.{WordsTold};
 
 use graft::Walk;
+use numbers::NODE_SIZE;
 use places::Run;
 use records::{Body, SourceNode};
 
@@ -76,7 +77,15 @@ pub fn graft_nodes(
         (refs_from w.now.plan work.old strs.old m.old (shown_of w.now.tape.now w.now.bytes.now (records_at node_codec w.now.tape.now run.at run.count))) }
 {
     for i in 0..run.count {
-        graft_node_at(w, out, work, strs, m, run.at + 49 * i, nodesat + 49 * i)?;
+        graft_node_at(
+            w,
+            out,
+            work,
+            strs,
+            m,
+            run.at + NODE_SIZE * i,
+            nodesat + NODE_SIZE * i,
+        )?;
     }
     Some(())
 }

@@ -8,15 +8,15 @@ ghost use Rattle.layer.specs.Layered.{TotalsFit};
 
 use layer::{Grafted, Place};
 use refusal::Refusal;
-use region::Book;
 use std::io;
 use std::io::Read;
 use store::Totals;
+use tape::Book;
 
 // number 3's limit, as crate `texts` has it for itself
-const MAX_POOL: u32 = 1048575;
+const MAX_POOL: u32 = numbers::MAX_POOL as u32;
 
-const NODE: usize = 49;
+const NODE: usize = numbers::NODE_SIZE;
 
 fn put_refused(rt: &impl Print, refusal: Refusal) -> io::Result<()> {
     print!(rt; "refused {}", u32::from(refusal))
@@ -86,8 +86,8 @@ fn totals_fit(o: Totals) -> bool
 }
 
 fn show_graft(rt: &(impl Alloc + Print), c: cases::Case) -> io::Result<()> {
-    let places = match tape::checked_book(c.tape, c.bytes) {
-        Ok(places) => places,
+    let source = match tape::open_book(c.tape, c.bytes) {
+        Ok(book) => book,
         Err(refusal) => return put_refused(rt, refusal),
     };
     let below = Totals {
@@ -98,13 +98,6 @@ fn show_graft(rt: &(impl Alloc + Print), c: cases::Case) -> io::Result<()> {
     if !totals_fit(below) {
         return put_refused(rt, Refusal::NoRoom);
     }
-    let store = store::store_of(c.tape, places.layers);
-    let source = Book {
-        tape: c.tape,
-        bytes: c.bytes,
-        places,
-        store: &store,
-    };
     let mut out = vec![in rt.alloc(); 7u8; c.start.min(65536) as usize]?;
     let mut strs = vec![in rt.alloc(); 7u8; c.end.min(262144) as usize]?;
     let mut work = vec![in rt.alloc(); 7u32; 16384]?;

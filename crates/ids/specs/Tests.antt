@@ -10,7 +10,8 @@ use Rattle.model.specs.Limits.{no_string}
 use Rattle.model.specs.Types.{Body, Content, Segment, SourceNode}
 use Rattle.model.specs.WellFormed.{word_of}
 use Rattle.model.specs.Tape.{Field, Field.str, Field.opt_str, Field.content_range, Field.seg_range, field_table, fields_of, node_fields, record_at, operands_at, segment_codec, node_codec}
-use Rattle.wire.specs.Loops.{all_up_to, Passed, all_passed, all_failed, by_bool}
+use Rattle.facts.specs.Truth.{by_bool}
+use Rattle.wire.specs.Loops.{all_up_to, Passed, all_passed, all_failed}
 use Rattle.records.specs.Values.{body_at, segment_body, node_body}
 use Rattle.records.specs.Uses.{word_use, uses_of, use_among}
 use Rattle.records.specs.declared.Use.{Use}

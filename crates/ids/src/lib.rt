@@ -11,14 +11,18 @@ ghost use Rattle.model.specs.Lists.{all};
 ghost use Rattle.model.specs.Tape.{record_at, records_at, content_codec, segment_codec, node_codec, places, book_at};
 ghost use Rattle.records.specs.Uses.{use_number};
 ghost use Rattle.ids.specs.Tests.{used_well, two_runs, body_in, content_in, segment_in, node_in};
-ghost use Rattle.ids.specs.Whole.{runs_in, layers_in, LayersFit, IdsFit};
+ghost use Rattle.places.specs.Walked.{RunsFit, PlacesFit, all_layers};
+ghost use Rattle.store.specs.Stored.{OfTape};
+ghost use Rattle.ids.specs.Whole.{runs_in};
 
-use places::Run;
+use numbers::{CONTENT_SIZE, NODE_SIZE, SEGMENT_SIZE};
+use places::{LayerRuns, Places, Run};
 use records::{RUBY, Use};
+use span::StrId;
 use store::Store;
 
 // The id of a missing string: a value of the tape's own format.
-pub const NO_STRING: u32 = 4294967295;
+pub const NO_STRING: StrId = StrId(4294967295);
 
 // The word behind word i, 0 behind the last.
 pub fn next_word(tape: &[u8], at: usize, i: usize) -> u32
@@ -36,7 +40,7 @@ pub fn next_word(tape: &[u8], at: usize, i: usize) -> u32
 struct Pools<'a> {
     tape: &'a [u8],
     st: &'a Store,
-    ghost few: { st.now.layers ≤ 32 },
+    ghost of_tape: { OfTape tape.now st.now },
 }
 
 impl Pools<'_> {
@@ -48,8 +52,8 @@ impl Pools<'_> {
         ensures { result ≡ used_well self.now.st.now (use_number usage) w next }
     {
         match usage {
-            Use::Str => self.st.has_string(w),
-            Use::OptStr => w == NO_STRING || self.st.has_string(w),
+            Use::Str => self.st.has_string(StrId(w)),
+            Use::OptStr => StrId(w) == NO_STRING || self.st.has_string(StrId(w)),
             Use::Contents => self.st.has_contents(w, next),
             Use::Segments => self.st.has_segments(w, next),
             Use::Unused | Use::ContentsLen | Use::SegmentsLen => true,
@@ -110,7 +114,7 @@ impl Pools<'_> {
     {
         let c = records::content_at(self.tape, at);
         if c.is_plain() {
-            return self.st.has_string(c.first);
+            return self.st.has_string(StrId(c.first));
         }
         self.st.has_segments(c.first, c.second)
     }
@@ -122,7 +126,7 @@ impl Pools<'_> {
         ensures { result ≡ all (content_in self.now.st.now) (records_at content_codec self.now.tape.now run.at run.count) }
     {
         for i in 0..run.count {
-            if !self.content_ids_ok(run.at + 10 * i) {
+            if !self.content_ids_ok(run.at + CONTENT_SIZE * i) {
                 return false;
             }
         }
@@ -134,7 +138,7 @@ impl Pools<'_> {
         ensures { result ≡ all (segment_in self.now.st.now) (records_at segment_codec self.now.tape.now run.at run.count) }
     {
         for i in 0..run.count {
-            if !self.segment_ids_ok(run.at + 37 * i) {
+            if !self.segment_ids_ok(run.at + SEGMENT_SIZE * i) {
                 return false;
             }
         }
@@ -161,7 +165,7 @@ impl Pools<'_> {
         ensures { result ≡ all (node_in self.now.st.now) (records_at node_codec self.now.tape.now run.at run.count) }
     {
         for i in 0..run.count {
-            if !self.node_ids_ok(run.at + 49 * i) {
+            if !self.node_ids_ok(run.at + NODE_SIZE * i) {
                 return false;
             }
         }
@@ -169,35 +173,32 @@ impl Pools<'_> {
     }
 
     // Number 4 of one layer.
-    fn layer_ids_ok(&self, l: places::LayerRuns) -> bool
-        requires { (l.contents.at + 10 * l.contents.count ≤ length self.now.tape.now) × (l.segments.at + 37 * l.segments.count ≤ length self.now.tape.now) }
+    fn layer_ids_ok(&self, l: LayerRuns) -> bool
+        requires { RunsFit self.now.tape.now l }
         ensures { result ≡ runs_in self.now.tape.now self.now.st.now l }
     {
         self.contents_ids_ok(l.contents) && self.segments_ids_ok(l.segments)
     }
 
-    // How many layers there are is taken from the places, as `LayersFit` is told of it; that the store has as many would be one fact more.
-    fn layers_ids_ok(&self, layers: usize) -> bool
-        requires { LayersFit self.now.tape.now self.now.st.now layers }
-        ensures { result ≡ layers_in self.now.tape.now self.now.st.now }
+    // By the store: a layer that was counted is not counted again.
+    fn layers_ids_ok(&self) -> bool
+        ensures { result ≡ all_layers (runs_in self.now.tape.now self.now.st.now) self.now.tape.now }
     {
-        let mut at = 9;
-        for _layer in 0..layers {
-            let l = places::next_layer(self.tape, at);
-            if !self.layer_ids_ok(l) {
+        for k in 0..self.st.layers {
+            if !self.layer_ids_ok(self.st.layer_runs(k)) {
                 return false;
             }
-            at = l.end;
         }
         true
     }
 }
 
 // Number 4, whole: of the tape with these places and this store, whatever the bytes of its texts are.
-pub fn ids_ok(tape: &[u8], st: Store, p: places::Places) -> bool
-    requires { IdsFit tape.now st p }
+pub fn ids_ok(tape: &[u8], st: &Store, p: Places) -> bool
+    requires of_tape { OfTape tape.now st.now }
+    requires places_fit { PlacesFit tape.now p }
     ensures { (d : List ℕ) → result ≡ ids_ok (book_at tape.now (places tape.now) d) }
 {
-    let pools = Pools { tape, st: &st };
-    pools.layers_ids_ok(p.layers) && pools.nodes_ids_ok(p.nodes)
+    let pools = Pools { tape, st };
+    pools.layers_ids_ok() && pools.nodes_ids_ok(p.nodes)
 }

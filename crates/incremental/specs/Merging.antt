@@ -4,24 +4,26 @@ use Rattle.std.proofs.Common.{sym, ◌∙◌}
 use Rattle.std.proofs.Math.Path.{ap}
 use Rattle.model.specs.Refusal.{Checked, Checked.refused, ◌>>=◌}
 use Rattle.model.specs.Region.{Edit}
-use Rattle.model.specs.Merge.{stored_of, Room, IncrementalOutput, MergeWindow, room_of, result_checked, merge, fitted, Fitted}
+use Rattle.model.specs.Merge.{Stored, Room, IncrementalOutput, room_of, result_checked, merge, fitted, Fitted}
 use Rattle.laws.specs.Estimate.{finished, merge_fitted}
-use Rattle.places.specs.declared.Places.{Places}
-use Rattle.store.specs.declared.Store.{Store}
+use Rattle.edit.specs.Values.{edit_value}
+use Rattle.splice.specs.Window.{window_value}
 use Rattle.output.specs.declared.IncrementalOutput.{IncrementalOutput as Output}
 use Rattle.output.specs.Answer.{Written}
-use Rattle.fitting.specs.Books.{Books, book_in}
-use Rattle.fitting.specs.Stages.{books_fitted}
+use Rattle.tape.specs.StringBytes.{book_of}
+use Rattle.fitting.specs.declared.merging.Merging.{Merging}
+use Rattle.fitting.specs.Stages.{MergingOf, merging_fitted}
 
-module _ (t d : List ℕ) (e : Edit) (rt rd : List ℕ) (room : Room) where
-  pub merge_refused : {n : ℕ} → fitted (stored_of t d) e (stored_of rt rd) ≡ refused n → merge (stored_of t d) e (stored_of rt rd) room ≡ refused n
+module _ (s : Stored) (e : Edit) (rs : Stored) (room : Room) where
+  pub merge_refused : {n : ℕ} → fitted s e rs ≡ refused n → merge s e rs room ≡ refused n
   unfolding ◌>>=◌
-  merge_refused f = merge_fitted (stored_of t d) e (stored_of rt rd) room ∙ ap (λ (x : Checked Fitted). x >>= finished e room) f
+  merge_refused f = merge_fitted s e rs room ∙ ap (λ (x : Checked Fitted). x >>= finished e room) f
 
-  pub merge_result : {p q : Places} {st own : Store} {w : MergeWindow} → Books t d p st e w rt rd q own
-      → merge (stored_of t d) e (stored_of rt rd) room ≡ result_checked (book_in t d) e (book_in rt rd) w room
+  pub merge_result : {m : Merging} → MergingOf s e rs m → merge s e rs room ≡ result_checked (book_of m.book) (edit_value m.edit) (book_of m.reading) (window_value m.window) room
   unfolding ◌>>=◌
-  merge_result b = merge_fitted (stored_of t d) e (stored_of rt rd) room ∙ ap (λ (x : Checked Fitted). x >>= finished e room) (books_fitted b)
+  merge_result {m} o =
+      merge_fitted s e rs room ∙ ap (λ (x : Checked Fitted). x >>= finished e room) (merging_fitted o)
+      ∙ ap (λ (y : Edit). result_checked (book_of m.book) y (book_of m.reading) (window_value m.window) room) (sym o.edit)
 
 -- the answer of a later stage, whose work words are as many
 pub written_later : {asked : Checked IncrementalOutput} {out text : List ℕ} (work later : List ℕ) (ask : Room → Checked IncrementalOutput) → asked ≡ ask (room_of out text work) → length later ≡ length work

@@ -7,8 +7,7 @@ use borrow.Author.Tests.{leb-true, leb-false, le-ltb, ne_eqb}
 use Rattle.model.specs.Limits.{max_part}
 use Rattle.model.specs.Bytes.{word_at}
 use Rattle.model.specs.Refusal.{Checked.refused, ◌>>=◌, refuse◌if◌, number_of}
-use Rattle.laws.specs.Lists.{both}
-use Rattle.wire.specs.Loops.{by_bool}
+use Rattle.facts.specs.Truth.{both, by_bool}
 use Rattle.lines.specs.Text.{refused_line}
 use Rattle.lines.specs.Input.{same_word}
 use Rattle.inspect.specs.Inspect.{behind, asked_behind, asked, lines_of, inspect}

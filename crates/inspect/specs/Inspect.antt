@@ -61,10 +61,6 @@ asked s = do
 
 -- ---- the output
 
--- the book of a tape and its bytes, where they are accepted
-abbrev pub book_of : List ℕ → List ℕ → LexOutput
-book_of t d = book_at t (places t) d
-
 -- The passage that an edit makes be read anew: where it starts and ends, and its text in the old book.
 unfoldable pub passage_line : LexOutput → Span → List ℕ
 passage_line b r = numbered (ascii "passage ") r.start ++ (numbered (ascii " ") r.end ++ (ascii " " ++ (quoted (region_text b r) ++ ascii "\n")))
@@ -74,7 +70,7 @@ passage_lines b none = []
 passage_lines b (some r) = passage_line b r ∷ []
 
 unfoldable pub book_lines : List ℕ → List ℕ → Option Span → List (List ℕ)
-book_lines t d r = passage_lines (book_of t d) r ++ listing t d r
+book_lines t d r = passage_lines (book_at t (places t) d) r ++ listing t d r
 
 unfoldable pub lines_of : List ℕ → Checked (Option Span) → List (List ℕ)
 lines_of s (refused n) = refused_line n ∷ []

@@ -4,31 +4,24 @@
 #![tactic(auto)]
 
 ghost use Rattle.std.specs.Prelude.{◌≡◌, ℕ, ◌+◌, ◌≤◌, List, length, take};
-ghost use Rattle.model.specs.Region.{choose_region};
-ghost use Rattle.refusal.specs.Refusal.{number_in, checked, checked_map};
+ghost use Rattle.refusal.specs.Refusal.{number_in};
 ghost use Rattle.span.specs.Values.{span_of};
+ghost use Rattle.edit.specs.Values.{edit_value};
+ghost use Rattle.tape.specs.StringBytes.{book_of};
 ghost use Rattle.lines.specs.Put.{room, Put};
-ghost use Rattle.listing.specs.Pieces.{mark_of};
-ghost use Rattle.inspect.specs.Inspect.{tape_in, bytes_in, behind, edit_at, asked, book_of, passage_line};
-ghost use Rattle.inspect.specs.Answers.{head_number, edit_number, Shown};
+ghost use Rattle.inspect.specs.Inspect.{tape_in, bytes_in, behind, edit_at, passage_line};
+ghost use Rattle.inspect.specs.Answers.{head_number, edit_number};
+ghost use Rattle.inspect.specs.Read.{Read};
 
+use edit::Edit;
 use lines::Line;
+use listing::Listed;
 use refusal::Refusal;
-use span::Span;
+use span::{SourceOffset, Span};
 use std::io;
 use std::io::Write;
 
 const MAX_PART: u32 = 65536;
-
-// A book that is shown, and the region of an edit, where there is one. It has no store, as `listing::Book` has: that one lives where the lines
-// are printed, and this is answered before.
-#[derive(Clone, Copy)]
-struct Asked<'a> {
-    tape: &'a [u8],
-    bytes: &'a [u8],
-    region: Option<Span>,
-    ghost shown: { Shown tape.now bytes.now },
-}
 
 // ---- the input
 
@@ -87,40 +80,41 @@ fn check_edit(input: &[u8], at: usize) -> Result<(), Refusal>
     Ok(())
 }
 
-// ---- what is shown
-
-// The region of the edit whose words stand at a place.
-fn region_at(
-    input: &[u8],
-    at: usize,
-    tape: &[u8],
-    bytes: &[u8],
-    words: &mut [u32],
-) -> Result<Span, Refusal>
+// The edit whose words stand at a place.
+fn edit_in<'a>(input: &'a [u8], at: usize) -> Edit<'a>
     requires { (at ≤ 131080) × (at + 12 ≤ length input.now) }
-    ensures { checked_map span_of (checked result) ≡ choose_region tape.now bytes.now (edit_at input.now at) }
+    ensures { edit_value result ≡ edit_at input.now at }
 {
-    let start = wire::u32_at(input, at);
-    let end = wire::u32_at(input, at + 4);
     let size = wire::u32_at(input, at + 8) as usize;
-    let replacement = wire::between(input, at + 12, at + 12 + size);
-    region::choose_region(tape, bytes, start, end, replacement, words)
+    Edit {
+        start: SourceOffset(wire::u32_at(input, at)),
+        end: SourceOffset(wire::u32_at(input, at + 4)),
+        replacement: wire::between(input, at + 12, at + 12 + size),
+    }
 }
 
-fn answer(input: &[u8], words: &mut [u32]) -> Result<Option<Span>, Refusal>
-    ensures { checked_map mark_of (checked result) ≡ asked input.now }
+// ---- what is shown
+
+// Of a stream `s`, as many bytes are read as the buffer holds. That is enough (`asked_cut` in specs/Cut.antt), for a buffer of this size:
+// eight, two parts of 65536, twelve, a part of 65536, and one that shows a surplus.
+fn read<'a>(input: &'a [u8], words: &mut [u32]) -> Result<Listed<'a>, Refusal>
+    ensures { (s : List ℕ) → take 196629 s ≡ input.now → Read s result }
 {
     check_head(input)?;
     let tape = tape_in(input);
     let bytes = bytes_in(input);
     let at = behind(input);
     if input.len() == at {
-        tape::check_book(tape, bytes)?;
-        return Ok(None);
+        let book = tape::open_book(tape, bytes)?;
+        return Ok(Listed { book, region: None });
     }
     check_edit(input, at)?;
-    let region = region_at(input, at, tape, bytes, words)?;
-    Ok(Some(region))
+    let book = tape::open_book(tape, bytes)?;
+    let region = region::chosen_region(&book, &edit_in(input, at), words)?;
+    Ok(Listed {
+        book,
+        region: Some(region),
+    })
 }
 
 // ---- the output
@@ -134,61 +128,31 @@ fn print<W: Write>(writer: &mut W, line: &mut Line<'_>) -> io::Result<()>
     written
 }
 
-fn book_text<'a>(tape: &[u8], bytes: &'a [u8]) -> &'a [u8]
-    ensures { result.now ≡ (book_of tape.now bytes.now).sanitized }
+// Up to 50 bytes before the text, two quotes and a newline, and four for each of its bytes.
+fn put_passage(listed: &Listed, line: &mut Line<'_>, region: Span)
+    requires { 262197 ≤ room line.old }
+    ensures { Put line.old line.new 262197 (passage_line (book_of listed.now.book) (span_of region)) }
 {
-    wire::between(bytes, 0, wire::u32_or_zero(tape, 1) as usize)
+    let text = region::region_text(listed.book.text(), region);
+    line.put_number(b"passage ", u64::from(region.start.0));
+    line.put_number(b" ", u64::from(region.end.0));
+    line.put_text(b" ");
+    line.put_quoted(text);
+    line.put_text(b"\n");
 }
 
-impl<'a> Asked<'a> {
-    ghost use Rattle.inspect.specs.Read.{Read};
-
-    // Of a stream `s`, as many bytes are read as the buffer holds. That is enough (`asked_cut` in specs/Cut.antt), for a buffer of this size:
-    // eight, two parts of 65536, twelve, a part of 65536, and one that shows a surplus.
-    fn read(input: &'a [u8], words: &mut [u32]) -> Result<Asked<'a>, Refusal>
-        ensures { (s : List ℕ) → take 196629 s ≡ input.now → Read s result }
-    {
-        let region = answer(input, words)?;
-        Ok(Asked {
-            tape: tape_in(input),
-            bytes: bytes_in(input),
-            region,
-        })
+fn print_lines<W: Write>(listed: &Listed, writer: &mut W, line: &mut Line<'_>) -> io::Result<()>
+    requires { 3932866 ≤ room line.old }
+{
+    let tape = listed.book.tape;
+    let mut c = listing::first_line();
+    // no `for`: each record says how long it is, and an `Iterator` would have to promise of each what `put_line` and `next_line` ask
+    while c.at < tape.len() {
+        listed.put_line(line, c);
+        print(writer, line)?;
+        c = listing::next_line(tape, c);
     }
-
-    // Up to 50 bytes before the text, two quotes and a newline, and four for each of its bytes.
-    fn put_passage(&self, line: &mut Line<'_>, region: Span)
-        requires { 262197 ≤ room line.old }
-        ensures { Put line.old line.new 262197 (passage_line (book_of self.now.tape.now self.now.bytes.now) (span_of region)) }
-    {
-        let text = region::region_text(book_text(self.tape, self.bytes), region.start, region.end);
-        line.put_number(b"passage ", u64::from(region.start));
-        line.put_number(b" ", u64::from(region.end));
-        line.put_text(b" ");
-        line.put_quoted(text);
-        line.put_text(b"\n");
-    }
-
-    fn print_lines<W: Write>(&self, writer: &mut W, line: &mut Line<'_>) -> io::Result<()>
-        requires { 3932866 ≤ room line.old }
-    {
-        let p = places::places_of(self.tape, self.bytes).unwrap();
-        let st = store::store_of(self.tape, p.layers);
-        let book = listing::Book {
-            tape: self.tape,
-            bytes: self.bytes,
-            st: &st,
-            region: self.region,
-        };
-        let mut c = listing::first_line();
-        // no `for`: each record says how long it is, and an `Iterator` would have to promise of each what `put_line` and `next_line` ask
-        while c.at < self.tape.len() {
-            book.put_line(line, c);
-            print(writer, line)?;
-            c = listing::next_line(self.tape, c);
-        }
-        Ok(())
-    }
+    Ok(())
 }
 
 fn run<W: Write>(
@@ -199,17 +163,17 @@ fn run<W: Write>(
 ) -> io::Result<()>
     requires { 3932866 ≤ room line.old }
 {
-    match Asked::read(input, words) {
+    match read(input, words) {
         Err(refusal) => {
             line.put_refused(u32::from(refusal));
             print(writer, line)
         }
-        Ok(asked) => {
-            if let Some(region) = asked.region {
-                asked.put_passage(line, region);
+        Ok(listed) => {
+            if let Some(region) = listed.region {
+                put_passage(&listed, line, region);
                 print(writer, line)?;
             }
-            asked.print_lines(writer, line)
+            print_lines(&listed, writer, line)
         }
     }
 }

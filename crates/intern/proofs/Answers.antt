@@ -6,6 +6,7 @@ use Rattle.std.proofs.lemmas.Option.{none-some, same_Some}
 use mathlib.Core.List.{flatten}
 use Rattle.model.specs.Intern.{StrInterner, InternStats, Interned, Probe, holds, grows, table_for, plus_stats, cache_hit, bypass, table_hit, table_alloc, table_call, intern}
 use Rattle.model.specs.Limits.{max_new_strings}
+use Rattle.span.specs.declared.StrId.{StrId}
 use Rattle.table.specs.Layout.{wide_words, table_of, starts_of, strings_up_to, Starts, Entries}
 use Rattle.table.specs.Views.{part_in}
 use Rattle.table.specs.Strings.{length_strings}
@@ -26,7 +27,7 @@ module _ (work strs : List ℕ) (st : Interner) (g : Good work strs st) where
   strings = strings_up_to st.count (starts_of st.count work) strs
 
   -- ---- a string that is there
-  pub known_told : (slot : ℕ) (c : Counters) (one : InternStats) → Adds st.stats c one → slot ≤ st.count → (u : Interner) → u ≡ known_state st slot c → (r : ℕ) → r ≡ slot - 1
+  pub known_told : (slot : ℕ) (c : Counters) (one : InternStats) → Adds st.stats c one → slot ≤ st.count → (u : Interner) → u ≡ known_state st slot c → (r : StrId) → r.0 ≡ slot - 1
       → Told work strs st work strs u (Some r) (record { id = slot - 1; state = record { strings = strings; table = table_of st.slots work; occupied = st.occupied; last = slot; stats = plus_stats (stats_of st.stats) one } })
   unfolding has_room
   known_told slot c one adds le u is r id =
@@ -50,7 +51,7 @@ module _ (work strs : List ℕ) (st : Interner) (g : Good work strs st) where
         refused = λ e. absurd (none-some r (sym e));
         answered = λ k e. record {
           state = ap (λ (x : InternStats). record { strings = strings; table = table_of st.slots work; occupied = st.occupied; last = slot; stats = x }) adds.is;
-          id_is = sym (same_Some r k e) ∙ id;
+          id_is = ap (λ (x : StrId). x.0) (sym (same_Some r k e)) ∙ id;
           base = refl;
           kept = refl;
           free = refl;
@@ -70,7 +71,7 @@ module _ (work strs : List ℕ) (st : Interner) (g : Good work strs st) where
     unfolding table_alloc
     alloc_refused resized p hb = refusal _ (sym hb ∙ room_more work strs st g b s room _ refl)
 
-    module _ (has : b ≡ true) (work' strs' : List ℕ) (c : Counters) (one : InternStats) (adds : Adds st.stats c one) (t : Interner) (a : Alloced work strs st s c work' strs' t) (r : ℕ) (id : r ≡ st.count) where
+    module _ (has : b ≡ true) (work' strs' : List ℕ) (c : Counters) (one : InternStats) (adds : Adds st.stats c one) (t : Interner) (a : Alloced work strs st s c work' strs' t) (r : StrId) (id : r.0 ≡ st.count) where
       pub bypass_told : one ≡ record { calls = 1; cache_hits = 0; table_hits = 0; allocs = 1; long_bypass = 1; resizes = 0; probe_steps = 0 } → Told work strs st work' strs' t (Some r) (bypass (state_of work strs st) s)
       unfolding bypass
       bypass_told hby =
@@ -80,7 +81,7 @@ module _ (work strs : List ℕ) (st : Interner) (g : Good work strs st) where
             refused = λ e. absurd (none-some r (sym e));
             answered = λ k e. record {
               state = a.state ∙ ap (allocated (state_of work strs st) s) (adds.is ∙ ap (plus_stats (stats_of st.stats)) hby);
-              id_is = sym (same_Some r k e) ∙ id ∙ sym (count_is work strs st g);
+              id_is = ap (λ (x : StrId). x.0) (sym (same_Some r k e)) ∙ id ∙ sym (count_is work strs st g);
               base = a.base;
               kept = a.kept;
               free = a.free;
@@ -168,7 +169,7 @@ module _ (work strs : List ℕ) (st : Interner) (g : Good work strs st) where
                 state =
                     ap (state_of new strs') state ∙ entered_state ∙ ap entered a.state
                     ∙ (λ i. record { strings = strings ++ (s ∷ []); table = set (table_of st.slots work) (sym hat i) (more i); occupied = st.occupied + 1; last = suc (length strings); stats = (adds.is ∙ ap (plus_stats (stats_of st.stats)) hby) i });
-                id_is = sym (same_Some r k e) ∙ id ∙ sym (count_is work strs st g);
+                id_is = ap (λ (x : StrId). x.0) (sym (same_Some r k e)) ∙ id ∙ sym (count_is work strs st g);
                 base = ap (λ (x : Interner). x.base) state ∙ a.base;
                 kept = a.kept;
                 free = drop-set-lt 15360 work' (t.slots - 256 + at) t.count (omega (arith, size_hi a.good.size, lt_t)) ∙ a.free;
@@ -176,7 +177,7 @@ module _ (work strs : List ℕ) (st : Interner) (g : Good work strs st) where
             })
 
   -- ---- words and numbers of the table changed before
-  pub told_over : (w work' strs' : List ℕ) (u u' : Interner) (r : Option ℕ) (a : Interned) → u ≡ with_slots st u.slots → drop 8192 w ≡ drop 8192 work → Told w strs u work' strs' u' r a → Told work strs st work' strs' u' r a
+  pub told_over : (w work' strs' : List ℕ) (u u' : Interner) (r : Option StrId) (a : Interned) → u ≡ with_slots st u.slots → drop 8192 w ≡ drop 8192 work → Told w strs u work' strs' u' r a → Told work strs st work' strs' u' r a
   told_over w work' strs' u u' r a is high h =
       let base : u.base ≡ st.base = ap (λ (x : Interner). x.base) is in
       let used : u.used ≡ st.used = ap (λ (x : Interner). x.used) is in
@@ -211,20 +212,20 @@ module _ (work strs : List ℕ) (st : Interner) (g : Good work strs st) where
         ap (λ (q : Probe). table_hit (state_of work strs st) (table_of st.slots work) resized q) is ∙ sym (rw (ne_eqb _ _ z) refl)
 
     pub hit_told : (c : Counters) → Adds st.stats c (record { calls = 1; cache_hits = 0; table_hits = 1; allocs = 0; long_bypass = 0; resizes = resized; probe_steps = p.steps }) → (p.slot ≡ 0 → ⊥) → p.slot ≤ st.count
-        → (u : Interner) → u ≡ known_state st p.slot c → (r : ℕ) → r ≡ p.slot - 1 → Told work strs st work strs u (Some r) (probed_call (state_of work strs st) resized s)
+        → (u : Interner) → u ≡ known_state st p.slot c → (r : StrId) → r.0 ≡ p.slot - 1 → Told work strs st work strs u (Some r) (probed_call (state_of work strs st) resized s)
     unfolding table_hit
     hit_told c adds ne le u k r id = subst (λ (a : Interned). Told work strs st work strs u (Some r) a) (call_hit ne) (known_told p.slot c _ adds le u k r id)
 
   -- ---- the whole call
   module _ (s : List ℕ) (b : Bool) (is_last : b ≡ holds strings st.last s) where
     pub intern_cached : (c : Counters) → Adds st.stats c (record { calls = 1; cache_hits = 1; table_hits = 0; allocs = 0; long_bypass = 0; resizes = 0; probe_steps = 0 }) → b ≡ true
-        → (u : Interner) → u ≡ known_state st st.last c → (r : ℕ) → r ≡ st.last - 1 → Told work strs st work strs u (Some r) (intern (state_of work strs st) s)
+        → (u : Interner) → u ≡ known_state st st.last c → (r : StrId) → r.0 ≡ st.last - 1 → Told work strs st work strs u (Some r) (intern (state_of work strs st) s)
     unfolding intern cache_hit
     intern_cached c adds hb u k r id =
         let e : cache_hit (state_of work strs st) ≡ intern (state_of work strs st) s = sym (rw (sym is_last ∙ hb) refl) in
         subst (λ (a : Interned). Told work strs st work strs u (Some r) a) e (known_told st.last c _ adds g.known u k r id)
 
-    pub intern_bypass : (work' strs' : List ℕ) (u : Interner) (r : Option ℕ) → b ≡ false → 64 < length s → Told work strs st work' strs' u r (bypass (state_of work strs st) s) → Told work strs st work' strs' u r (intern (state_of work strs st) s)
+    pub intern_bypass : (work' strs' : List ℕ) (u : Interner) (r : Option StrId) → b ≡ false → 64 < length s → Told work strs st work' strs' u r (bypass (state_of work strs st) s) → Told work strs st work' strs' u r (intern (state_of work strs st) s)
     unfolding intern
     intern_bypass work' strs' u r hb lt h =
         let e : bypass (state_of work strs st) s ≡ intern (state_of work strs st) s = sym (rw (sym is_last ∙ hb, lt-ltb 64 (length s) lt) refl) in
@@ -240,7 +241,7 @@ module _ (work strs : List ℕ) (st : Interner) (g : Good work strs st) where
         ap (λ (x : StrInterner). probed_call x resized s) y.state
         ∙ ap (λ (n : ℕ). probed_call (with_table (state_of work strs st) (table_for (state_of work strs st))) n s) hr
 
-    pub intern_told : (w work' strs' : List ℕ) (u u' : Interner) (r : Option ℕ) (resized : ℕ) → b ≡ false → length s ≤ 64 → Ready work strs st w u → resized ≡ cond (grows (state_of work strs st)) 1 0
+    pub intern_told : (w work' strs' : List ℕ) (u u' : Interner) (r : Option StrId) (resized : ℕ) → b ≡ false → length s ≤ 64 → Ready work strs st w u → resized ≡ cond (grows (state_of work strs st)) 1 0
         → Told w strs u work' strs' u' r (probed_call (state_of w strs u) resized s) → Told work strs st work' strs' u' r (intern (state_of work strs st) s)
     intern_told w work' strs' u u' r resized hb le y hr h =
         subst (λ (a : Interned). Told work strs st work' strs' u' r a) (ready_call w u resized y hr ∙ intern_table hb le) (told_over w work' strs' u u' r _ y.is y.high h)
@@ -249,7 +250,7 @@ module _ (work strs : List ℕ) (st : Interner) (g : Good work strs st) where
 module _ (work strs : List ℕ) (st : Interner) (g : Good work strs st) (w : List ℕ) (m : Remembered work strs st w) where
   pub learnt_told : (s : List ℕ) (resized : ℕ) (p : Probe) → p ≡ first_probe (state_of work strs st) s
       → (c : Counters) → Adds st.stats c (record { calls = 1; cache_hits = 0; table_hits = 1; allocs = 0; long_bypass = 0; resizes = resized; probe_steps = p.steps })
-      → (p.slot ≡ 0 → ⊥) → p.slot ≤ st.count → (u : Interner) → u ≡ known_state st p.slot c → (r : ℕ) → r ≡ p.slot - 1 → Told work strs st w strs u (Some r) (probed_call (state_of work strs st) resized s)
+      → (p.slot ≡ 0 → ⊥) → p.slot ≤ st.count → (u : Interner) → u ≡ known_state st p.slot c → (r : StrId) → r.0 ≡ p.slot - 1 → Told work strs st w strs u (Some r) (probed_call (state_of work strs st) resized s)
   learnt_told s resized p is c adds ne le u k r id =
       let h = hit_told w strs st m.good s resized p (is ∙ ap (λ (x : StrInterner). first_probe x s) (sym m.state)) c adds ne le u k r id in
       told_over work strs st g w w strs st u (Some r) (probed_call (state_of work strs st) resized s) refl m.high

@@ -6,12 +6,13 @@ use Rattle.std.proofs.lemmas.Bool.{eqb-false}
 use Rattle.std.proofs.Math.Seq.{get_or-append_seam}
 use Rattle.model.specs.Limits.{intern_length_limit, max_new_strings}
 use Rattle.model.specs.Intern.{InternStats, StrInterner, Interned, Probe, fresh_interner, fx_hash, plus_stats, holds, probe, grows, table_for, cache_hit, bypass, table_hit, table_alloc, table_call, intern, intern_all}
+use Rattle.facts.specs.Truth.{both}
+use Rattle.facts.specs.Lists.{same_refl, flatten_snoc}
+use Rattle.span.specs.declared.StrId.{StrId}
 use Rattle.interner.specs.declared.StrInterner.{StrInterner as Interner}
-use Rattle.laws.specs.Lists.{both, same_refl}
 use Rattle.model.specs.Lists.{same}
 use Rattle.table.specs.Found.{found_there}
 use Rattle.interner.specs.State.{state_of, Good, has_room}
-use Rattle.interner.specs.Added.{flatten_snoc}
 use Rattle.intern.specs.Told.{Answered}
 
 by_cond : (P : Interned → Type 0) (b : Bool) (x y : Interned) → P x → P y → P (cond b x y)
@@ -57,11 +58,11 @@ unfolding cache_hit bypass table_alloc table_hit plus_stats
 calls_one t s = each_way (λ (a : Interned). a.state.stats.calls ≡ t.stats.calls + 1) t s refl refl (λ table resized p. refl) (λ table resized p. refl)
 
 -- so a caller knows how many calls it has left
-pub answered_calls : (work strs : List ℕ) (st : Interner) (s : List ℕ) (work' strs' : List ℕ) (u : Interner) (id : ℕ) → Answered work strs st work' strs' u id (intern (state_of work strs st) s) → u.stats.calls ≡ st.stats.calls + 1
+pub answered_calls : (work strs : List ℕ) (st : Interner) (s : List ℕ) (work' strs' : List ℕ) (u : Interner) (id : StrId) → Answered work strs st work' strs' u id (intern (state_of work strs st) s) → u.stats.calls ≡ st.stats.calls + 1
 answered_calls work strs st s work' strs' u id a = ap (λ (t : StrInterner). t.stats.calls) a.state ∙ calls_one (state_of work strs st) s
 
 -- ---- the bytes before the layer's strings stay as they are
-pub answered_base : (work strs : List ℕ) (st : Interner) (work' strs' : List ℕ) (u : Interner) (id : ℕ) (a : Interned) → Good work strs st → Answered work strs st work' strs' u id a → take u.base strs' ≡ take st.base strs
+pub answered_base : (work strs : List ℕ) (st : Interner) (work' strs' : List ℕ) (u : Interner) (id : StrId) (a : Interned) → Good work strs st → Answered work strs st work' strs' u id a → take u.base strs' ≡ take st.base strs
 answered_base work strs st work' strs' u id a g h =
     ap (λ (n : ℕ). take n strs') h.base
     ∙ sym (take-take st.base st.used strs' g.begins)

@@ -14,6 +14,7 @@ ghost use Rattle.interner.specs.Row.{far_in};
 ghost use Rattle.intern.specs.Told.{Told, known_state, probed_call};
 
 use interner::{Layer, StrInterner};
+use span::StrId;
 use stats::InternStats;
 use table::Probed;
 
@@ -23,18 +24,18 @@ const INTERN_LENGTH_LIMIT: usize = 64;
 const NEAR: usize = 16;
 
 // The id of a string that is there: its slot's content is one more.
-fn known(st: &mut StrInterner, slot: u32, stats: InternStats) -> u32
+fn known(st: &mut StrInterner, slot: u32, stats: InternStats) -> StrId
     requires { 0 < slot }
-    ensures id { result ≡ slot - 1 }
+    ensures id { result.0 ≡ slot - 1 }
     ensures state { st.new ≡ known_state st.old slot stats }
 {
     st.last = slot as usize;
     st.stats = stats;
-    slot - 1
+    StrId(slot - 1)
 }
 
 // A string over 64 bytes: a new one, and the table is not looked at.
-fn bypass(st: &mut StrInterner, work: &mut [u32], strs: &mut [u8], s: &[u8]) -> Option<u32>
+fn bypass(st: &mut StrInterner, work: &mut [u32], strs: &mut [u8], s: &[u8]) -> Option<StrId>
     requires good { Good work.old strs.old st.old }
     requires calls_bound { st.old.stats.calls < 2 ^ 32 }
     ensures { Told work.old strs.old st.old work.new strs.new st.new result (bypass_of_model (state_of work.old strs.old st.old) s.now) }
@@ -42,7 +43,7 @@ fn bypass(st: &mut StrInterner, work: &mut [u32], strs: &mut [u8], s: &[u8]) -> 
     if !st.has_room(strs.len(), s.len()) {
         return None;
     }
-    let id = st.count as u32;
+    let id = StrId(st.count as u32);
     let stats = st.stats.bypass();
     st.alloc(work, strs, s, stats);
     Some(id)
@@ -56,7 +57,7 @@ fn table_alloc(
     s: &[u8],
     p: Probed,
     resized: u64,
-) -> Option<u32>
+) -> Option<StrId>
     requires good { Good work.old strs.old st.old }
     requires slots_nonzero { (0 < st.old.slots) × (st.old.stats.calls < 2 ^ 32) × (resized ≤ 1) }
     requires at_lt_slots { (p.at < st.old.slots) × (p.steps ≤ 4096) × (get_or (table_of st.old.slots work.old) p.at 0 ≡ 0) }
@@ -65,7 +66,7 @@ fn table_alloc(
     if !st.has_room(strs.len(), s.len()) {
         return None;
     }
-    let id = st.count as u32;
+    let id = StrId(st.count as u32);
     let stats = st.stats.table_alloc(resized, p.steps);
     st.alloc(work, strs, s, stats);
     st.enter(work, p.at);
@@ -80,7 +81,7 @@ fn learn(
     s: &[u8],
     resized: u64,
     j: usize,
-) -> Option<u32>
+) -> Option<StrId>
     requires good { Good work.old strs.old st.old }
     requires slots_nonzero { (0 < st.old.slots) × (st.old.occupied * 8 < st.old.slots * 7) }
     requires calls_bound { (st.old.stats.calls < 2 ^ 32) × (resized ≤ 1) × (j ≤ far_in work.old) }
@@ -102,7 +103,7 @@ fn far_call(
     strs: &mut [u8],
     s: &[u8],
     resized: u64,
-) -> Option<u32>
+) -> Option<StrId>
     requires good { Good work.old strs.old st.old }
     requires slots_nonzero { (0 < st.old.slots) × (st.old.occupied * 8 < st.old.slots * 7) }
     requires calls_bound { (st.old.stats.calls < 2 ^ 32) × (resized ≤ 1) }
@@ -126,7 +127,7 @@ fn table_call(
     strs: &mut [u8],
     s: &[u8],
     resized: u64,
-) -> Option<u32>
+) -> Option<StrId>
     requires good { Good work.old strs.old st.old }
     requires slots_nonzero { (0 < st.old.slots) × (st.old.occupied * 8 < st.old.slots * 7) }
     requires calls_bound { (st.old.stats.calls < 2 ^ 32) × (resized ≤ 1) }
@@ -144,7 +145,7 @@ fn table_call(
 }
 
 // `intern` of the last answer's string: a cache hit. Who knows that it is that string need not compare it.
-pub fn intern_last(st: &mut StrInterner) -> u32
+pub fn intern_last(st: &mut StrInterner) -> StrId
     requires last_nonzero { (0 < st.old.last) × (st.old.last ≤ max_new_strings) }
     requires counted { Counted st.old.stats × (st.old.stats.calls < 2 ^ 32) }
     ensures { (work strs s : List ℕ) → Good work strs st.old → holds (state_of work strs st.old).strings st.old.last s ≡ true → Told work strs st.old work strs st.new (Some result) (intern_of_model (state_of work strs st.old) s) }
@@ -155,7 +156,7 @@ pub fn intern_last(st: &mut StrInterner) -> u32
 
 // `intern`. The calls are to be below 2 to the 32, so that no count of 64 bits wraps: what a caller keeps by `answered_calls`.
 // None where the defined state has over 3583 strings, or bytes past the buffer's end, and only then.
-pub fn intern(st: &mut StrInterner, work: &mut [u32], strs: &mut [u8], s: &[u8]) -> Option<u32>
+pub fn intern(st: &mut StrInterner, work: &mut [u32], strs: &mut [u8], s: &[u8]) -> Option<StrId>
     requires good { Good work.old strs.old st.old }
     requires calls_bound { st.old.stats.calls < 2 ^ 32 }
     ensures { Told work.old strs.old st.old work.new strs.new st.new result (intern_of_model (state_of work.old strs.old st.old) s.now) }

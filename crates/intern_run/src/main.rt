@@ -8,6 +8,7 @@ ghost use Rattle.std.specs.Prelude.{◌≡◌, ◌∷◌, [], ◌+◌, ◌/◌, 
 ghost use Rattle.interner.specs.State.{Good};
 
 use interner::StrInterner;
+use span::StrId;
 use std::io;
 
 fn put_hash(rt: &impl Print, bytes: &[u8]) -> io::Result<()> {
@@ -16,12 +17,12 @@ fn put_hash(rt: &impl Print, bytes: &[u8]) -> io::Result<()> {
 }
 
 // The state behind a call, and the id that it answered, or that it was refused.
-fn show(rt: &impl Print, label: &str, st: &StrInterner, id: Option<u32>) -> io::Result<()> {
+fn show(rt: &impl Print, label: &str, st: &StrInterner, id: Option<StrId>) -> io::Result<()> {
     let c = st.stats;
     let told = if id.is_some() { "ok" } else { "refused" };
     println!(rt;
         "{label} {told} id {} slots {} strings {} calls {} cache {} table {} allocs {} long {} resizes {} probes {}",
-        id.unwrap_or(0),
+        id.map_or(0, |id| id.0),
         st.slots,
         st.count,
         c.calls,
@@ -43,7 +44,7 @@ fn begin(work: &mut [u32], strs: &[u8]) -> StrInterner
     StrInterner::new(work, 0)
 }
 
-fn call(st: &mut StrInterner, work: &mut [u32], strs: &mut [u8], s: &[u8]) -> Option<u32>
+fn call(st: &mut StrInterner, work: &mut [u32], strs: &mut [u8], s: &[u8]) -> Option<StrId>
     requires { Good work.old strs.old st.old }
     ensures { Good work.new strs.new st.new }
 {
@@ -65,7 +66,7 @@ fn digits(i: u32) -> [u8; 4] {
 }
 
 // Calls for the strings "0000", "0001" and so on, n of them.
-fn many(st: &mut StrInterner, work: &mut [u32], strs: &mut [u8], n: u32) -> Option<u32>
+fn many(st: &mut StrInterner, work: &mut [u32], strs: &mut [u8], n: u32) -> Option<StrId>
     requires { Good work.old strs.old st.old }
     ensures { Good work.new strs.new st.new }
 {
@@ -137,7 +138,7 @@ fn one(rt: &impl Print) -> io::Result<()> {
 }
 
 // Calls for the strings of four bytes in s, one after the other.
-fn each(st: &mut StrInterner, work: &mut [u32], strs: &mut [u8], s: &[u8]) -> Option<u32>
+fn each(st: &mut StrInterner, work: &mut [u32], strs: &mut [u8], s: &[u8]) -> Option<StrId>
     requires { Good work.old strs.old st.old }
     ensures { Good work.new strs.new st.new }
 {

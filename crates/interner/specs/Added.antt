@@ -2,9 +2,10 @@
 use Rattle.std.specs.Prelude.{◌≡◌, refl, ℕ, zero, suc, ◌+◌, ◌-◌, ◌<◌, ◌≤◌, length, get_or, take, drop}
 use Rattle.std.proofs.Common.{sym, ◌∙◌, subst, arith, add-one, lit<, length-take-le, ext_get_or, take-take}
 use Rattle.std.proofs.Math.Path.{ap}
-use mathlib.Core.List.{List, [], ◌∷◌, ◌++◌, append_assoc, append-nil, flatten}
+use mathlib.Core.List.{List, [], ◌∷◌, ◌++◌, append_assoc, flatten}
 use Rattle.std.proofs.Math.Decide.{ℕ_discrete}
 use Rattle.std.proofs.lemmas.List.{take-append-le}
+use Rattle.facts.specs.Lists.{flatten_snoc}
 use Rattle.wire.specs.Overwrite.{overwrite, length_overwrite, take_overwrite, get_d_overwrite, get_d_before}
 use Rattle.stats.specs.declared.InternStats.{InternStats as Counters}
 use Rattle.stats.specs.Counts.{Counted, stats_of}
@@ -20,10 +21,6 @@ use Rattle.table.specs.Strings.{length_strings, strings_ext}
 use Rattle.table.specs.Sizes.{size_hi, starts_length}
 
 -- ---- the bytes
-pub flatten_snoc : (l : List (List ℕ)) (s : List ℕ) → flatten (l ++ (s ∷ [])) ≡ flatten l ++ s
-unfolding flatten
-flatten_snoc [] s = append-nil s
-flatten_snoc (x ∷ xs) s = ap (λ (l : List ℕ). x ++ l) (flatten_snoc xs s) ∙ sym (append_assoc x (flatten xs) s)
 
 module _ (strs s : List ℕ) (used : ℕ) (fits : used + length s ≤ length strs) where
   abbrev written : List ℕ

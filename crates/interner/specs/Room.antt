@@ -1,27 +1,19 @@
 -- Whether there is room for the strings. Assumes nothing.
-use Rattle.std.specs.Prelude.{◌≡◌, refl, Bool, true, ◌&&◌, ℕ, ◌+◌, ◌-◌, ◌<◌, ◌≤◌, take}
+use Rattle.std.specs.Prelude.{◌≡◌, refl, Bool, true, ◌&&◌, ℕ, ◌+◌, ◌<◌, ◌≤◌, take}
 use Rattle.std.proofs.Math.Path.{sym, ap}
 use Rattle.std.proofs.Common.{◌∙◌, arith, length-take-le}
 use mathlib.Core.List.{List, [], ◌∷◌, ◌++◌, flatten}
-use Rattle.std.proofs.Math.Decide.{dec_lt}
-use borrow.Author.Tests.{le-leb, lt-leb, leb-true}
+use borrow.Author.Tests.{le-leb, leb-true}
 use Rattle.std.proofs.Math.Dec.{leb}
 use Rattle.std.proofs.Math.ListN.{length, length-append}
 use Rattle.model.specs.Intern.{StrInterner}
 use Rattle.model.specs.Limits.{max_new_strings}
-use Rattle.laws.specs.Lists.{both}
+use Rattle.facts.specs.Truth.{both}
+use Rattle.facts.specs.Lists.{flatten_snoc}
 use Rattle.table.specs.Layout.{starts_of, strings_up_to}
 use Rattle.table.specs.Strings.{length_strings}
 use Rattle.interner.specs.declared.StrInterner.{StrInterner as Interner}
 use Rattle.interner.specs.State.{state_of, Good, has_room}
-use Rattle.interner.specs.Added.{flatten_snoc}
-
-pub room_left_lem : (size used n : ℕ) → used ≤ size → leb n (size - used) ≡ leb (used + n) size
-room_left_lem size used n h =
-    elim (dec_lt (size - used) n) [
-      | yes lt ↦ lt-leb n (size - used) lt ∙ sym (lt-leb (used + n) size (omega arith))
-      | no ge ↦ le-leb n (size - used) (omega (arith, ge)) ∙ sym (le-leb (used + n) size (omega (arith, ge)))
-    ]
 
 pub room_there : (count used n size : ℕ) → (leb (count + 1) max_new_strings && leb (used + n) size) ≡ true → (count < 3583) × (used + n ≤ size)
 room_there count used n size e =

@@ -10,7 +10,7 @@ use Rattle.std.proofs.lemmas.Bool.{lt-leb}
 use Rattle.std.proofs.Math.ListN.{length, get_or, set, length-set, get_or-append, get_or-eq_default}
 use Rattle.model.specs.Lists.{same}
 use Rattle.model.specs.Intern.{Probe, fx_hash, holds, probe}
-use Rattle.laws.specs.Lists.{same_eq}
+use Rattle.facts.specs.Lists.{same_eq}
 use Rattle.moves.specs.Words.{moved_up, moved_length, moved_before, moved_at, by_place}
 use Rattle.table.specs.Layout.{Entries}
 use Rattle.table.specs.Slots.{holds_some}

@@ -7,12 +7,13 @@ use borrow.Author.Tests.{eq-eqb, ne_eqb}
 use Rattle.std.proofs.lemmas.List.{length-replicate}
 use Rattle.model.specs.Lists.{is_empty}
 use Rattle.model.specs.Intern.{grows, table_for, move_slots}
+use Rattle.facts.specs.Lists.{is_empty_lem}
 use Rattle.interner.specs.declared.StrInterner.{StrInterner as Interner}
 use Rattle.laws.specs.Slots.{taken, taken_le, taken_zeros, moved_taken}
 use Rattle.table.specs.Layout.{wide_words, table_of, starts_of, strings_up_to, strings_of, Starts, Entries}
 use Rattle.interner.specs.State.{state_of, Good, Ready, with_slots, with_table}
 use Rattle.interner.specs.Row.{Row, row_of, far_in, row_none}
-use Rattle.table.specs.Sizes.{Size, size256, is_due, size_lo, size_grows, size_double, size_length, strings_all, is_empty_lem, due_full, due_not}
+use Rattle.table.specs.Sizes.{Size, size256, is_due, size_lo, size_grows, size_double, size_length, strings_all, due_full, due_not}
 use Rattle.table.specs.Views.{part_high}
 use Rattle.table.specs.Cleared.{cleared_length, cleared_part, cleared_high}
 use Rattle.table.specs.Roomy.{entries_all, entries_zeros}

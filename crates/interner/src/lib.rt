@@ -15,10 +15,10 @@ ghost use Rattle.table.specs.Layout.{probe_of, table_of};
 ghost use Rattle.interner.specs.State.{state_of, Good, Good-prop, Fresh, Ready, with_entry, Alloced, Remembered, first_probe};
 ghost use Rattle.interner.specs.Row.{row_of, far_in, probe_for, probe_at, far_string};
 
+use numbers::MAX_NEW_STRINGS;
+use span::StrId;
 use stats::InternStats;
 use table::{INITIAL_CAPACITY, Probed, STARTS};
-
-const MAX_NEW_STRINGS: usize = 3583;
 
 // how many words the row of the far strings has, and where it stands behind smaller tables
 const ROW: usize = 3840;
@@ -181,9 +181,9 @@ impl<'a> Layer<'a> {
     }
 
     // `resolve`: the bytes of string id.
-    pub fn resolve(&self, id: u32) -> &'a [u8]
-        requires { id < self.now.st.now.count }
-        ensures { result.now ≡ get_or (state_of self.now.work.now self.now.strs.now self.now.st.now).strings id [] }
+    pub fn resolve(&self, id: StrId) -> &'a [u8]
+        requires { id.0 < self.now.st.now.count }
+        ensures { result.now ≡ get_or (state_of self.now.work.now self.now.strs.now self.now.st.now).strings id.0 [] }
     {
         let end = STARTS + 2 * self.st.count + 2;
         table::string_at(&self.work[STARTS..end], self.strs, id)
@@ -196,7 +196,7 @@ impl<'a> Layer<'a> {
         if self.st.last == 0 {
             return false;
         }
-        compare::same(self.resolve((self.st.last - 1) as u32), s)
+        compare::same(self.resolve(StrId((self.st.last - 1) as u32)), s)
     }
 
     // ---- far strings
@@ -222,7 +222,7 @@ impl<'a> Layer<'a> {
         ensures { result.now ≡ far_string (state_of self.now.work.now self.now.strs.now self.now.st.now).strings (table_of self.now.st.now.slots self.now.work.now) (get_or self.now.work.now (row_of self.now.st.now.slots + j) 0) }
     {
         let p = self.far_probe(j);
-        self.resolve(p.slot - 1)
+        self.resolve(StrId(p.slot - 1))
     }
 
     // How many far strings precede s. Proved is only that there are no fewer far strings: `recall` tests what stands there. Bisected by hand:

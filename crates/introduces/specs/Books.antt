@@ -8,11 +8,13 @@ use Rattle.model.specs.Store.{store_of}
 use Rattle.model.specs.Region.{is_referenced_format}
 use Rattle.model.specs.Merge.{introduces_ruby_format_dependency}
 use Rattle.laws.specs.Nodes.{ends_by, starts_at}
-use Rattle.bounds.specs.Spans.{span_of}
+use Rattle.span.specs.Values.{span_of}
+use Rattle.span.specs.declared.Span.{Span}
+use Rattle.tape.specs.declared.book.Book.{Book}
+use Rattle.tape.specs.StringBytes.{book_of}
 use Rattle.ruby_formats.specs.declared.nodes.Nodes.{Nodes}
 use Rattle.ruby_formats.specs.Nodes.{nodes_store, first_nodes}
-use Rattle.region.specs.declared.book.Book.{Book}
-use Rattle.region.specs.Books.{book_of, NodesOf, nodes_store_lem, nodes_are}
+use Rattle.ruby_formats.specs.Books.{NodesOf, nodes_store_lem, nodes_are}
 use Rattle.introduces.specs.Linked.{ruby_for_later, refers_to, none_refers, introduces_is}
 
 -- does a Referenced Format of the reading refer to a base before an offset?
@@ -27,18 +29,18 @@ refers_by s m start e q = q ∙ rw (nodes_store_lem s, e, nodes_store_lem m, nod
 
 -- ---- number 15
 
-module _ (b r : Book) (start end : ℕ) {x : Bool} (e : x ≡ ruby_for_later (book_of r).source_nodes (book_of b).source_nodes end) where
-  whole : introduces_ruby_format_dependency (book_of b) (book_of r) (span_of start end) ≡ x || refers_before b r start
+module _ (b r : Book) (region : Span) {x : Bool} (e : x ≡ ruby_for_later (book_of r).source_nodes (book_of b).source_nodes region.end.0) where
+  whole : introduces_ruby_format_dependency (book_of b) (book_of r) (span_of region) ≡ x || refers_before b r region.start.0
   unfolding ruby_for_later
-  whole = sym (introduces_is (book_of b) (book_of r) (span_of start end)) ∙ ap (λ (y : Bool). y || refers_before b r start) (sym e)
+  whole = sym (introduces_is (book_of b) (book_of r) (span_of region)) ∙ ap (λ (y : Bool). y || refers_before b r region.start.0) (sym e)
 
-  pub introduces_later : x ≡ true → true ≡ introduces_ruby_format_dependency (book_of b) (book_of r) (span_of start end)
+  pub introduces_later : x ≡ true → true ≡ introduces_ruby_format_dependency (book_of b) (book_of r) (span_of region)
   introduces_later f = sym (whole ∙ rw f refl)
 
   module _ (f : x ≡ false) where
-    pub introduces_refers : {y : Bool} → y ≡ refers_before b r start → y ≡ introduces_ruby_format_dependency (book_of b) (book_of r) (span_of start end)
+    pub introduces_refers : {y : Bool} → y ≡ refers_before b r region.start.0 → y ≡ introduces_ruby_format_dependency (book_of b) (book_of r) (span_of region)
     introduces_refers g = g ∙ sym (whole ∙ rw f refl)
 
     pub introduces_none : {y : Bool} → y ≡ any is_referenced_format (keep (starts_at 0) (book_of r).source_nodes) → y ≡ false
-        → false ≡ introduces_ruby_format_dependency (book_of b) (book_of r) (span_of start end)
+        → false ≡ introduces_ruby_format_dependency (book_of b) (book_of r) (span_of region)
     introduces_none g z = introduces_refers (sym (none_refers _ _ _ (book_of r).source_nodes (sym g ∙ z)))

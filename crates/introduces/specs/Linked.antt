@@ -11,9 +11,9 @@ use Rattle.model.specs.Store.{NodeStore, store_of}
 use Rattle.model.specs.Tape.{record_at, node_codec}
 use Rattle.model.specs.Region.{is_ruby, is_referenced_format, first_plain}
 use Rattle.model.specs.Merge.{introduces_ruby_format_dependency}
-use Rattle.laws.specs.Lists.{neither}
+use Rattle.facts.specs.Truth.{neither, by_bool}
 use Rattle.laws.specs.Nodes.{ends_by, starts_at}
-use Rattle.wire.specs.Loops.{by_bool}
+use Rattle.span.specs.declared.StrId.{StrId}
 use Rattle.strings.specs.declared.lent.Strings.{Strings}
 use Rattle.strings.specs.Lent.{lent_store}
 use Rattle.strings.specs.PlainContent.{plain_of, plain_string}
@@ -32,7 +32,7 @@ module _ (st : NodeStore) (earlier : List SourceNode) (ss : Strings) (p : ℕ) {
   unfolding refers_to
   refers_other h = rw (← e, h) refl
 
-  pub refers_target : x ≡ true → {r : Option ℕ} → ((b : List ℕ) → r ≡ plain_of (first_contents ss.tape.now p b)) → {y : Bool}
+  pub refers_target : x ≡ true → {r : Option StrId} → ((b : List ℕ) → r ≡ plain_of (first_contents ss.tape.now p b)) → {y : Bool}
       → y ≡ among_bases st earlier (plain_string (lent_store ss) r) → y ≡ refers_to st earlier (lent_store ss) (record_at node_codec ss.tape.now p)
   unfolding refers_to
   refers_target h f q = rw (← e, h) (q ∙ ap (among_bases st earlier) (sym (plain_first ss p f)))

@@ -8,9 +8,10 @@ use Rattle.model.specs.Types.{SourceNode}
 use Rattle.model.specs.Store.{NodeStore}
 use Rattle.model.specs.Tape.{record_at, node_codec}
 use Rattle.model.specs.Region.{is_ruby, is_referenced_format, first_plain}
-use Rattle.laws.specs.Lists.{both, or_right}
-use Rattle.wire.specs.Loops.{Missed, by_bool}
+use Rattle.facts.specs.Truth.{both, or_right, by_bool}
+use Rattle.wire.specs.Loops.{Missed}
 use Rattle.records.specs.Runs.{test_at}
+use Rattle.span.specs.declared.StrId.{StrId}
 use Rattle.strings.specs.declared.lent.Strings.{Strings}
 use Rattle.strings.specs.Lent.{lent_store}
 use Rattle.strings.specs.PlainContent.{plain_of, same_known, plain_string}
@@ -29,7 +30,7 @@ module _ (r : Row) (rs : Strings) (p : ℕ) {x : Bool} (e : x ≡ is_referenced_
   unfolding refers_to_row
   row_other h = rw (← e, h) refl
 
-  pub row_target : x ≡ true → {o : Option ℕ} → ((b : List ℕ) → o ≡ plain_of (first_contents rs.tape.now p b)) → {y : Bool}
+  pub row_target : x ≡ true → {o : Option StrId} → ((b : List ℕ) → o ≡ plain_of (first_contents rs.tape.now p b)) → {y : Bool}
       → y ≡ among_row r (plain_string (lent_store rs) o) → y ≡ refers_to_row r (lent_store rs) (record_at node_codec rs.tape.now p)
   unfolding refers_to_row
   row_target h f q = rw (← e, h) (q ∙ ap (among_row r) (sym (plain_first rs p f)))

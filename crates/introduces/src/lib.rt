@@ -18,11 +18,11 @@ ghost use Rattle.model.specs.Tape.{records_at, node_codec};
 ghost use Rattle.model.specs.Region.{is_referenced_format};
 ghost use Rattle.model.specs.Merge.{introduces_ruby_format_dependency};
 ghost use Rattle.laws.specs.Nodes.{starts_at};
-ghost use Rattle.bounds.specs.Spans.{span_of};
+ghost use Rattle.span.specs.Values.{span_of};
 ghost use Rattle.ruby_formats.specs.Nodes.{node_in, first_nodes, nodes_store};
 ghost use Rattle.dependency.specs.Noted.{Noted};
 ghost use Rattle.dependency.specs.Rows.{Told, Rowed};
-ghost use Rattle.region.specs.Books.{book_of};
+ghost use Rattle.tape.specs.StringBytes.{book_of};
 ghost use Rattle.introduces.specs.Linked.{ruby_for_later};
 ghost use Rattle.introduces.specs.Among.{refers_to_first, any_refers};
 ghost use Rattle.introduces.specs.Books.{refers_before};
@@ -31,22 +31,24 @@ ghost use Rattle.records.specs.Runs.{test_at};
 ghost use Rattle.wire.specs.Loops.{Missed};
 
 use dependency::{Answer, Filter};
+use numbers::NODE_SIZE;
 use places::Run;
-use region::Book;
 use ruby_formats::Nodes;
 use sorted_ids::Row;
+use span::{SourceOffset, Span};
+use tape::Book;
 
 // A Referenced Format that starts at or behind an offset.
-fn any_format_from(tape: &[u8], nodes: Run, from: u32) -> bool
+fn any_format_from(tape: &[u8], nodes: Run, from: SourceOffset) -> bool
     requires { nodes.at + 49 * nodes.count ≤ length tape.now }
-    ensures { result ≡ any is_referenced_format (keep (starts_at from) (records_at node_codec tape.now nodes.at nodes.count)) }
+    ensures { result ≡ any is_referenced_format (keep (starts_at from.0) (records_at node_codec tape.now nodes.at nodes.count)) }
 {
-    (0..nodes.count).any(|i| ruby_formats::is_format_from(tape, nodes.at + 49 * i, from))
+    (0..nodes.count).any(|i| ruby_formats::is_format_from(tape, nodes.at + NODE_SIZE * i, from))
 }
 
 // A Ruby of the reading and a Referenced Format behind the region.
-fn ruby_for_later(book: &Book, reading: &Book, end: u32) -> bool
-    ensures { result ≡ ruby_for_later (book_of reading.now).source_nodes (book_of book.now).source_nodes end }
+fn ruby_for_later(book: &Book, reading: &Book, end: SourceOffset) -> bool
+    ensures { result ≡ ruby_for_later (book_of reading.now).source_nodes (book_of book.now).source_nodes end.0 }
 {
     ruby_formats::any_ruby(reading.tape, reading.places.nodes)
         && any_format_from(book.tape, book.places.nodes, end)
@@ -195,7 +197,7 @@ fn refers_in_parts(nodes: &Nodes, reading: &Nodes, words: &mut [u32]) -> bool
         let part = Nodes {
             strings: nodes.strings,
             run: Run {
-                at: nodes.run.at + 49 * i,
+                at: nodes.run.at + NODE_SIZE * i,
                 count: n,
             },
         };
@@ -229,10 +231,10 @@ fn refers_by_own(nodes: &Nodes, reading: &Nodes) -> bool
 }
 
 // A Referenced Format of the reading whose target is the base of a Ruby before the region.
-fn refers_before(book: &Book, reading: &Book, words: &mut [u32], start: u32) -> bool
-    ensures { result ≡ refers_before book.now reading.now start }
+fn refers_before(book: &Book, reading: &Book, words: &mut [u32], start: SourceOffset) -> bool
+    ensures { result ≡ refers_before book.now reading.now start.0 }
 {
-    let nodes = book.nodes();
+    let nodes = Nodes::of(book);
     let before = Nodes {
         strings: nodes.strings,
         run: Run {
@@ -241,25 +243,23 @@ fn refers_before(book: &Book, reading: &Book, words: &mut [u32], start: u32) -> 
         },
     };
     if dependency::in_many_parts(words.len(), 2 * book.places.nodes.count + 6) {
-        return refers_by_own(&before, &reading.nodes());
+        return refers_by_own(&before, &Nodes::of(reading));
     }
-    refers_by_words(&before, &reading.nodes(), words)
+    refers_by_words(&before, &Nodes::of(reading), words)
 }
 
-// Number 15. `introduces_ruby_format_dependency` of a book and a reading, with the region from `start` to `end`: two offsets, since each
-// of the two questions is about one of them.
+// Number 15. `introduces_ruby_format_dependency` of a book and a reading of its region.
 pub fn introduces_ruby_format_dependency(
     book: &Book,
     reading: &Book,
     words: &mut [u32],
-    start: u32,
-    end: u32,
+    region: Span,
 ) -> bool
-    ensures { result ≡ introduces_ruby_format_dependency (book_of book.now) (book_of reading.now) (span_of start end) }
+    ensures { result ≡ introduces_ruby_format_dependency (book_of book.now) (book_of reading.now) (span_of region) }
 {
-    if ruby_for_later(book, reading, end) {
+    if ruby_for_later(book, reading, region.end) {
         return true;
     }
-    any_format_from(reading.tape, reading.places.nodes, 0)
-        && refers_before(book, reading, words, start)
+    any_format_from(reading.tape, reading.places.nodes, SourceOffset(0))
+        && refers_before(book, reading, words, region.start)
 }

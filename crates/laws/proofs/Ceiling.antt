@@ -15,7 +15,8 @@ use Rattle.model.specs.Graft.{layered, graft_node_refs, graft_calls}
 use Rattle.model.specs.Region.{Edit}
 use Rattle.model.specs.Merge.{Stored, Room, IncrementalOutput, grafted, answer, merge}
 use Rattle.model.specs.Ceiling.{is_short, distinct_short, Ceiling, calls_of, reading_calls}
-use Rattle.laws.specs.Lists.{both, join, or_right, same_refl}
+use Rattle.facts.specs.Truth.{both, join, or_right}
+use Rattle.facts.specs.Lists.{same_refl}
 use Rattle.laws.specs.Checks.{merge_accepted}
 use Rattle.laws.specs.Intern.{Sound, intern_answers, fresh_sound}
 use Rattle.laws.specs.Slots.{taken, taken_set, empty_inside, empty_empty, taken_round}

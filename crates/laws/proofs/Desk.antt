@@ -1,6 +1,6 @@
 -- Wish 4, proved: for every list of calls from a zero ledger, each total is the sum of its own accepted rereads, and all totals together are
 -- the reread sum of the list. It is so for calls of any kind that charge a desk, and merges for a desk are such calls.
-use Rattle.std.specs.Prelude.{◌≡◌, refl, ℕ, zero, suc, ◌+◌, ◌<◌, Bool, true, false, not, List, [], ◌∷◌, ◌++◌, map, length, get_or, set, replicate, eqb, ltb}
+use Rattle.std.specs.Prelude.{◌≡◌, refl, ℕ, zero, suc, ◌+◌, ◌<◌, Bool, true, false, not, List, [], ◌∷◌, ◌++◌, map, length, get_or, set, eqb, ltb}
 use Rattle.std.proofs.Common.{sym, ap, ◌∙◌, arith, eqb-true, get_or-set_same, get_or-set_other}
 use Rattle.std.proofs.lemmas.Bool.{eqb-false}
 use borrow.Author.Tests.{ltb-true, not-false}
@@ -10,9 +10,9 @@ use Rattle.model.specs.Refusal.{Checked, Checked.refused, Checked.accepted}
 use Rattle.model.specs.Merge.{IncrementalOutput}
 use Rattle.model.specs.Demand3.{merge_of}
 use Rattle.model.specs.Desk.{desk_count, zero_ledger, desk_ok, Charged, charged, merge_for_desk, ChargesDesk, ledger_after, Charge, charges_of, ledger_behind, charges, rereads, own_rereads, LedgerTotals, DeskCall, desk_of_call, desk_answer, DeskTotals}
-use Rattle.laws.specs.Lists.{both, map_append}
-use Rattle.laws.specs.Keep.{keep_append}
-use Rattle.laws.specs.Nodes.{sum_append}
+use Rattle.facts.specs.Truth.{both}
+use Rattle.facts.specs.Lists.{map_append, sum_append, get_zeros}
+use Rattle.facts.specs.Keep.{keep_append}
 use Rattle.laws.specs.Checks.{bind_accepted, refuse_accepted, same_accepted}
 
 -- ---- a ledger grown by charges
@@ -66,14 +66,9 @@ grown_then l m n cs ds g h = record {
 
 -- ---- from zero
 
-zero_total : (n d : ℕ) → ◌≡◌ {A = ℕ} (get_or (replicate n 0) d 0) 0
-zero_total zero d = refl
-zero_total (suc n) zero = refl
-zero_total (suc n) (suc d) = zero_total n d
-
 pub grown_totals : {l : List ℕ} {cs : List Charge} → Grown zero_ledger l cs → LedgerTotals l cs
 grown_totals g = record {
-  own = λ d. let e = g.own d in let z = zero_total desk_count d in omega arith;
+  own = λ d. let e = g.own d in let z = get_zeros desk_count d in omega arith;
   all = let e = g.all in omega arith;
 }
 
@@ -100,25 +95,29 @@ module _ {Call : Type 0} (desk_of : Call → ℕ) (answer : List ℕ → Call �
 
 -- ---- merges for a desk
 
-pub charged_charges : (desk : ℕ) (ledger : List ℕ) (m : IncrementalOutput) (c : Charged) → desk_ok desk ledger ≡ true → charged desk ledger m ≡ accepted c → ChargesDesk desk ledger c
+-- the merge that is charged is the one that was made
+charged_merge : (desk : ℕ) (ledger : List ℕ) (m : IncrementalOutput) (c : Charged) → desk_ok desk ledger ≡ true → charged desk ledger m ≡ accepted c → (m ≡ c.merged) × ChargesDesk desk ledger c
 unfolding charged desk_ok
-charged_charges desk ledger m c ok e =
+charged_merge desk ledger m c ok e =
     let d = both (ltb desk desk_count) (eqb (length ledger) desk_count) ok in
     let x = ltb-true desk desk_count d.0 in
     let y = eqb-true (length ledger) desk_count d.1 in
     let total = get_or ledger desk 0 + m.reparsed_nodes in
     let r = refuse_accepted 20 (ltb max_u32 total) _ c e in
     let is = same_accepted (record { merged = m; ledger = set ledger desk total }) c r.1 in
-    rw (← is) (record { inside = omega arith; grown = refl })
+    rw (← is) (refl, record { inside = omega arith; grown = refl })
 
-desk_charges : (ledger : List ℕ) (call : DeskCall) (c : Charged) → desk_answer ledger call ≡ accepted c → ChargesDesk call.desk ledger c
+-- an accepted call past 19, its merge and 20: its merge was accepted, and charges the desk
+pub accepted_call : (ledger : List ℕ) (call : DeskCall) (c : Charged) → desk_answer ledger call ≡ accepted c
+    → (merge_of call.book call.correction call.room ≡ accepted c.merged) × ChargesDesk call.desk ledger c
 unfolding merge_for_desk
-desk_charges ledger call c e =
+accepted_call ledger call c e =
     let r = refuse_accepted 19 (not (desk_ok call.desk ledger)) _ c e in
     let b = bind_accepted (merge_of call.book call.correction call.room) _ c r.1 in
-    charged_charges call.desk ledger b.0 c (not-false (desk_ok call.desk ledger) r.0) b.2
+    let k = charged_merge call.desk ledger b.0 c (not-false (desk_ok call.desk ledger) r.0) b.2 in
+    (b.1 ∙ ap {B = Checked IncrementalOutput} accepted k.0, k.1)
 
 -- Wish 4. For every list of merges from a zero ledger.
 pub desk_totals : DeskTotals
 unfolding DeskTotals
-desk_totals cs = calls_totals desk_of_call desk_answer desk_charges cs
+desk_totals cs = calls_totals desk_of_call desk_answer (λ l call c e. (accepted_call l call c e).1) cs

@@ -17,7 +17,8 @@ use Rattle.model.specs.Tape.{parse}
 use Rattle.model.specs.WellFormed.{texts_are_utf8, within_limits, content_ok, segment_ok, node_ok, ids_ok, levels_ok, span_ok, ordered, offsets_ok, pair_ok, container_ok, diagnostic_ok, places_ok, images, spans, normalized_length_ok, laid_out, well_formed, check_book, check_reading}
 use Rattle.model.specs.Region.{Edit, edited, edit_ok, balanced_region, is_whole, has_ruby_format_dependency, chosen_region}
 use Rattle.model.specs.Merge.{Stored, Room, IncrementalOutput, window_of, new_region_text, balanced_nodes, is_unclosed, mark_at_empty_region, introduces_ruby_format_dependency, cuts_ok, grafted, merged_book, answer, fits_room, result_ok, fitting, result_checked, merge_books, merge, MergeWindow, Fitted, fitted}
-use Rattle.laws.specs.Lists.{both, neither, same_eq}
+use Rattle.facts.specs.Truth.{both, neither}
+use Rattle.facts.specs.Lists.{same_eq}
 
 -- ---- steps of a chain
 

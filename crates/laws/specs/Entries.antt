@@ -9,7 +9,8 @@ use mathlib.Core.List.{List, [], ◌∷◌, ◌++◌}
 use Rattle.std.proofs.Math.ListN.{get_or-append}
 use Rattle.model.specs.Lists.{all, any, keep, same}
 use Rattle.model.specs.Ceiling.{is_short, distinct_short}
-use Rattle.laws.specs.Lists.{both, join, neither, same_eq, same_sym}
+use Rattle.facts.specs.Truth.{both, join, neither}
+use Rattle.facts.specs.Lists.{same_eq, same_sym}
 use Rattle.laws.specs.Intern.{Below}
 use Rattle.laws.specs.Slots.{taken}
 

@@ -16,7 +16,7 @@ use Rattle.model.specs.Tree.{shown_node, shown_nodes}
 use Rattle.model.specs.Region.{Edit, edited, chosen_region}
 use Rattle.model.specs.Merge.{Stored, Room, IncrementalOutput, MergeWindow, merged_normalized, grafted, merged_layers, merged_book, stored_book, answer, result_ok, fitting, result_checked, merge_books, merge, Fitted, fitted}
 use Rattle.model.specs.Estimate.{Estimate, is_over, length_before, price_of, estimate}
-use Rattle.laws.specs.Lists.{flatten_snoc, map_append}
+use Rattle.facts.specs.Lists.{flatten_snoc, map_append}
 use Rattle.laws.specs.Checks.{refused_not, bind_accepted, refuse_accepted, same_accepted}
 
 -- ---- the merge is 1 to 17, then 18

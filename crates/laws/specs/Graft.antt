@@ -21,9 +21,10 @@ use Rattle.model.specs.Tree.{Tree, Tree.tree, Fields, Fields.done, Fields.text, 
 use Rattle.model.specs.Tree.{Contents, Contents.no_content, Contents.plain, Contents.segmented, Segments, Segments.no_segment, Segments.segment}
 use Rattle.model.specs.Tree.{show_segments, show_contents, show_fields, show_with, show_body}
 use Rattle.model.specs.Graft.{NewLayer, graft_str, push_contents, push_segments, graft_node, graft_fields, graft_contents, graft_segments}
-use Rattle.laws.specs.Lists.{both, join, neither, all_append}
-use Rattle.laws.specs.Prefix.{Prefix, prefix_refl, prefix_trans, prefix_length}
-use Rattle.laws.specs.Keep.{all_append_is, all_get, all_set}
+use Rattle.facts.specs.Truth.{both, join, neither}
+use Rattle.facts.specs.Lists.{get_zeros}
+use Rattle.facts.specs.Keep.{all_append, all_append_is, all_get, all_set}
+use Rattle.facts.specs.Prefix.{Prefix, prefix_refl, prefix_trans, prefix_length}
 use Rattle.laws.specs.Fits.{is_word, operand_fits, operands_fit, record_fits}
 use Rattle.laws.specs.Intern.{Sound, intern_answers}
 
@@ -282,11 +283,6 @@ zero_unused fs i (w ∷ ws) h = go (any (uses_word i) fs) refl (zero_unused fs (
     go true e r = r
     go false e r = rw (eq-eqb w 0 (h zero (ap (λ (k : ℕ). any (uses_word k) fs) (add-zero i) ∙ e))) r
 
-get_zeros : (n j : ℕ) → ◌≡◌ {A = ℕ} (get_or (replicate n 0) j 0) 0
-get_zeros zero j = refl
-get_zeros (suc n) zero = refl
-get_zeros (suc n) (suc j) = get_zeros n j
-
 pub unused_kept : (xs : List Field) (final : List ℕ) → Keeps xs (replicate 6 0) final → unused_zero xs 0 final ≡ true
 unused_kept xs final k = zero_unused xs 0 final (λ j e. k j (ap (λ (i : ℕ). any (uses_word i) xs) (sym (zero-add j)) ∙ e) ∙ get_zeros 6 j)
 
@@ -326,6 +322,31 @@ module _ {old : NodeStore} {g : NewLayer} {ls : List Layer} (numbered : Numbered
 
   abbrev pub good_segment : Segment → Bool
   good_segment s = record_fits segment_codec s && (segment_shape s && (level_ok st s && segment_ok ls s))
+
+  -- the parts of the two tests
+  pub record ContentFacts (c : Content) : Type 0 where
+    pub fits : record_fits content_codec c ≡ true
+    pub shape : content_shape c ≡ true
+    pub ids : content_ok ls c ≡ true
+
+  pub content_facts : (c : Content) → good_content c ≡ true → ContentFacts c
+  content_facts c e =
+      let u = both (record_fits content_codec c) (content_shape c && content_ok ls c) e in
+      let v = both (content_shape c) (content_ok ls c) u.1 in
+      record { fits = u.0; shape = v.0; ids = v.1 }
+
+  pub record SegmentFacts (s : Segment) : Type 0 where
+    pub fits : record_fits segment_codec s ≡ true
+    pub shape : segment_shape s ≡ true
+    pub level : level_ok st s ≡ true
+    pub ids : segment_ok ls s ≡ true
+
+  pub segment_facts : (s : Segment) → good_segment s ≡ true → SegmentFacts s
+  segment_facts s e =
+      let u = both (record_fits segment_codec s) (segment_shape s && (level_ok st s && segment_ok ls s)) e in
+      let v = both (segment_shape s) (level_ok st s && segment_ok ls s) u.1 in
+      let w = both (level_ok st s) (segment_ok ls s) v.1 in
+      record { fits = u.0; shape = v.0; level = w.0; ids = w.1 }
 
   pub record Pools (f : NewLayer) : Type 0 where
     pub strings : all good_string f.interner.strings ≡ true

@@ -3,11 +3,12 @@ use Rattle.std.specs.Prelude.{◌≡◌, refl, ◌⊎◌, ℕ, zero, suc, ◌+�
 use Rattle.std.proofs.Common.{sym, ap, ◌∙◌, inl, inr, zero-le, arith, append-nil, length-append, eqb-true, leb-true, le-leb}
 use Rattle.std.proofs.lemmas.Bool.{false≢true, eqb-false}
 use Rattle.std.proofs.Math.Seq.{get_or-append_seam}
-use Rattle.laws.specs.Lists.{both, join, all_map, same_eq}
-use Rattle.laws.specs.Keep.{all_get, all_set}
 use Rattle.model.specs.Lists.{all, is_empty}
 use Rattle.model.specs.Limits.{intern_length_limit, initial_capacity}
 use Rattle.model.specs.Intern.{fx_hash, StrInterner, Interned, Probe, fresh_interner, holds, probe, empty_slot, move_slots, grows, table_for, cache_hit, bypass, table_hit, table_alloc, table_call, intern}
+use Rattle.facts.specs.Truth.{both, join}
+use Rattle.facts.specs.Lists.{same_eq}
+use Rattle.facts.specs.Keep.{all_map, all_get, all_set}
 
 -- every number is at most m
 abbrev pub Below : ℕ → List ℕ → Type 0

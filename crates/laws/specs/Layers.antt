@@ -12,10 +12,11 @@ use Rattle.std.proofs.Math.ListN.{length, get_or, take, length-append, length-dr
 use Rattle.std.proofs.lemmas.List.{drop-append-le}
 use Rattle.std.proofs.Math.Seq.{take-append-le}
 use borrow.Author.Tests.{leb-true, ltb-true, le-leb, lt-ltb}
+use Rattle.facts.specs.Truth.{both, join, or_right}
+use Rattle.facts.specs.Lists.{item_in, flatten_append, flatten_snoc, map_append}
+use Rattle.facts.specs.Keep.{all_append_is, all_take, all_drop, all_map}
+use Rattle.facts.specs.Prefix.{Prefix}
 use Rattle.laws.specs.Checks.{id_facts}
-use Rattle.laws.specs.Keep.{all_append_is}
-use Rattle.laws.specs.Prefix.{Prefix}
-use Rattle.laws.specs.Lists.{both, item_in, all_take, all_drop, all_map, join, flatten_append, flatten_snoc, map_append, or_right}
 use Rattle.model.specs.Lists.{all, sum}
 use Rattle.model.specs.Types.{Body, Content, Segment, Layer, SourceNode, LexOutput}
 use Rattle.model.specs.Limits.{no_string, max_level}

@@ -21,8 +21,8 @@ use Rattle.model.specs.Tree.{Tree, Fields.text, Fields.absent}
 use Rattle.model.specs.Tree.{Contents.plain, Contents.segmented}
 use Rattle.model.specs.Tree.{show_segments, show_contents, show_fields, show_with, show_node, ShownNode, shown_node}
 use Rattle.model.specs.Graft.{NewLayer, graft_node, graft_fields, graft_node_ref, graft_node_refs}
-use Rattle.laws.specs.Lists.{both, join, all_take, all_drop, all_append, all_left, all_right, all_map}
-use Rattle.laws.specs.Keep.{all_get, and_false}
+use Rattle.facts.specs.Truth.{both, join, and_false}
+use Rattle.facts.specs.Keep.{all_take, all_drop, all_append, all_left, all_right, all_map, all_get}
 use Rattle.laws.specs.Fits.{operands_fit, record_fits}
 use Rattle.laws.specs.Graft.{inner, show_body_lem, TreeOf, FieldsOf, ContentsOf, SegmentsOf, distinct, table_distinct, with_layer, Above, Later, later_refl, later_trans, Made, made_trans, Numbered, Pools, good_string, tag_kind, segment_head, six_words, segment_from, level_shown, operands_append, operands_left, graft_fields_lem, six_fit, unused_kept}
 

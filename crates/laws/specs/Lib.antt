@@ -1,4 +1,3 @@
-pub mod Lists
 pub mod Checks
 pub mod Fits
 pub mod Words
@@ -10,7 +9,6 @@ pub mod Parts
 pub mod Result
 pub mod Numbers
 pub mod Ordered
-pub mod Keep
 pub mod Splice
 pub mod Shift
 pub mod Utf8
@@ -19,7 +17,6 @@ pub mod StableSort
 pub mod Located
 pub mod Nodes
 pub mod Marks
-pub mod Prefix
 pub mod Intern
 pub mod Slots
 pub mod Probe

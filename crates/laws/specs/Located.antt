@@ -11,8 +11,9 @@ use Rattle.model.specs.Lists.{all, any, keep, is_empty}
 use Rattle.model.specs.Region.{across}
 use Rattle.model.specs.Merge.{MergeWindow, Located, kept_before, kept_behind, spliced}
 use Rattle.model.specs.Once.{on_both_sides}
-use Rattle.laws.specs.Lists.{both, not_both, all_append, all_map, map_append}
-use Rattle.laws.specs.Keep.{keep_append, keep_map, keep_same, keep_none, keep_all, keep_keep, keep_comm, map_same, map_map, all_kept, all_map_is, any_is, any_all, same_le, and_false}
+use Rattle.facts.specs.Truth.{both, not_both, same_le, and_false}
+use Rattle.facts.specs.Lists.{map_append, map_map}
+use Rattle.facts.specs.Keep.{all_append, all_map, keep_append, keep_map, keep_same, keep_none, keep_all, keep_keep, keep_comm, map_same, all_kept, all_map_is, any_is, any_all}
 
 abbrev pub start_of : {A : Type 0} → Located A → A → ℕ
 start_of l x = (l.place x).start

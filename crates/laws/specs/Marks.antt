@@ -8,8 +8,8 @@ use Rattle.model.specs.Lists.{all, any}
 use Rattle.model.specs.Types.{Diagnostic}
 use Rattle.model.specs.WellFormed.{diagnostic_ok}
 use Rattle.model.specs.Merge.{MergeWindow, diagnostic_located, is_mark_at, mark_at_empty_region}
-use Rattle.laws.specs.Lists.{both, all_and, all_map}
-use Rattle.laws.specs.Keep.{any_all}
+use Rattle.facts.specs.Truth.{both}
+use Rattle.facts.specs.Keep.{all_and, all_map, any_all}
 use Rattle.laws.specs.Located.{is_before, is_behind, one_side}
 use Rattle.laws.specs.Nodes.{diagnostic_facts}
 

@@ -15,8 +15,9 @@ use Rattle.model.specs.Types.{SourceNode, PairLink, ContainerPair, Diagnostic, L
 use Rattle.model.specs.WellFormed.{span_ok, ordered, offsets_ok, image_length, span_length, pair_ok, container_ok, diagnostic_ok, images, spans}
 use Rattle.model.specs.Region.{across, depth_behind, depth, is_block_open, is_block_close, is_warichu_open, is_warichu_close, nodes_before, nodes_allow_cut, pairs_allow_cut, blank_line_before, safe_cut}
 use Rattle.model.specs.Merge.{balanced_from, normalized_offset}
-use Rattle.laws.specs.Lists.{both, join, all_and, all_keep, all_map, map_append}
-use Rattle.laws.specs.Keep.{keep_append, keep_all, keep_none, keep_same, map_map, map_same, all_keep_self, any_none, any_all, and_false}
+use Rattle.facts.specs.Truth.{both, join, and_false}
+use Rattle.facts.specs.Lists.{map_append, map_map, sum_append}
+use Rattle.facts.specs.Keep.{all_and, all_keep, all_map, keep_append, keep_all, keep_none, keep_same, map_same, all_keep_self, any_none, any_all}
 use Rattle.laws.specs.Checks.{WellFormed, limit_facts, PlaceFacts, place_facts, size_fact}
 
 -- ---- 3, 6 and 7
@@ -80,10 +81,6 @@ unfolding diagnostic_ok
 diagnostic_ok_lem size d h k = join (leb d.span.start d.span.end) (leb d.span.end size) (le-leb d.span.start d.span.end h) (le-leb d.span.end size k)
 
 -- ---- sums
-
-pub sum_append : (a b : List ℕ) → sum (a ++ b) ≡ sum a + sum b
-sum_append [] b = sym (zero-add (sum b))
-sum_append (x ∷ a) b = ap (λ (k : ℕ). x + k) (sum_append a b) ∙ sym (add_assoc x (sum a) (sum b))
 
 pub images_append : (a b : List SourceNode) → images (a ++ b) ≡ images a + images b
 unfolding images

@@ -9,7 +9,7 @@ use Rattle.model.specs.Lists.{all, keep}
 use Rattle.model.specs.Offset.{Span}
 use Rattle.model.specs.Types.{SourceNode}
 use Rattle.model.specs.WellFormed.{span_ok, ordered}
-use Rattle.laws.specs.Lists.{both, join}
+use Rattle.facts.specs.Truth.{both, join}
 
 -- ---- the Rust's ways
 

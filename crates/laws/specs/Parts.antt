@@ -1,16 +1,18 @@
 -- A tape and its bytes as their parts, one behind the other: the head of nine bytes, the layers, the nodes, the other lists; both texts, the
 -- strings. How long the records are: 49 bytes a node, whose body has six words, 18 a pair, 13 a container, 18 a diagnostic. Section 4.
-use Rattle.std.specs.Prelude.{◌≡◌, refl, ℕ, zero, suc, ◌+◌, ◌-◌, ◌*◌, ◌≤◌, Bool, true, length, take, drop, eqb}
+use Rattle.std.specs.Prelude.{◌≡◌, refl, ℕ, ◌+◌, ◌-◌, ◌*◌, ◌≤◌, Bool, true, length, take, drop, eqb}
 use Rattle.std.proofs.Common.{sym, ap, ◌∙◌, arith, mul-suc, length-append, take_at, drop_at, eqb-true}
 use Rattle.std.proofs.Math.Option.{some}
 use mathlib.Core.List.{List, [], ◌∷◌, ◌++◌, append_assoc, map, flatten}
-use Rattle.model.specs.Lists.{all, sum, tabulate}
+use Rattle.model.specs.Lists.{all, sum}
 use Rattle.model.specs.Bytes.{AreBytes, word_bytes, part}
 use Rattle.model.specs.Types.{Layer, SourceNode, PairLink, ContainerPair, Diagnostic, LexOutput}
 use Rattle.model.specs.Tape.{Operand, Operand.byte, Operand.word, operand_size, Codec, record_size, operands_at, record_at, operand_bytes, record_bytes, records_at, records_bytes, count_at, node_codec, pair_codec, container_codec, diagnostic_codec}
 use Rattle.model.specs.Tape.{places, book_at, parse, layer_bytes, tape_of, bytes_of}
-use Rattle.laws.specs.Lists.{both, join, part_length}
-use Rattle.laws.specs.Words.{word_length}
+use Rattle.facts.specs.Truth.{both}
+use Rattle.facts.specs.Lists.{flatten_append, map_append, part_length, parted}
+use Rattle.facts.specs.Keep.{all_tabulated}
+use Rattle.facts.specs.Words.{word_length}
 use Rattle.laws.specs.Records.{Lawful, records_read, node_lawful, pair_lawful, container_lawful, diagnostic_lawful}
 use Rattle.laws.specs.RoundTrip.{parse_laid_out, read_write}
 
@@ -38,10 +40,15 @@ module _ {A : Type 0} (c : Codec A) where
       length-append (record_bytes c a) (records_bytes c xs) ∙ omega (arith, n, more, mul-suc (record_size c) (length xs))
 
   -- of a kind whose records have as many values, each
-  records_width : ((a : A) → length (c.encode a) ≡ length c.operands) → (xs : List A) → length (records_bytes c xs) ≡ record_size c * length xs
+  pub records_width : ((a : A) → length (c.encode a) ≡ length c.operands) → (xs : List A) → length (records_bytes c xs) ≡ record_size c * length xs
   unfolding records_bytes flatten
   records_width e [] = omega arith
   records_width e (a ∷ xs) = records_more a xs (e a) (records_width e xs)
+
+-- a run behind another
+pub bytes_append : {A : Type 0} (c : Codec A) (xs ys : List A) → records_bytes c (xs ++ ys) ≡ records_bytes c xs ++ records_bytes c ys
+unfolding records_bytes
+bytes_append c xs ys = ap flatten (map_append (record_bytes c) xs ys) ∙ flatten_append (map (record_bytes c) xs) (map (record_bytes c) ys)
 
 pub pairs_width : (xs : List PairLink) → length (records_bytes pair_codec xs) ≡ 18 * length xs
 unfolding pair_codec
@@ -68,17 +75,13 @@ nodes_width (n ∷ ns) h =
     records_more node_codec n ns (let e = eqb-true (length n.body.words) 6 s.0 in omega (arith, e)) (nodes_width ns s.1)
 
 -- nodes that were read
-tabulate_six : (n : ℕ) (f : ℕ → SourceNode) → ((i : ℕ) → six_words (f i) ≡ true) → all six_words (tabulate n f) ≡ true
-tabulate_six zero f h = refl
-tabulate_six (suc n) f h = join (six_words (f zero)) _ (h zero) (tabulate_six n (λ i. f (suc i)) (λ i. h (suc i)))
-
 read_six : (t : List ℕ) (p : ℕ) → six_words (record_at node_codec t p) ≡ true
 unfolding six_words record_at node_codec operands_at
 read_six t p = refl
 
 pub nodes_six : (t : List ℕ) (p n : ℕ) → all six_words (records_at node_codec t p n) ≡ true
 unfolding records_at
-nodes_six t p n = tabulate_six n (λ i. record_at node_codec t (p + record_size node_codec * i)) (λ i. read_six t (p + record_size node_codec * i))
+nodes_six t p n = all_tabulated six_words n (λ i. record_at node_codec t (p + record_size node_codec * i)) (λ i. read_six t (p + record_size node_codec * i))
 
 -- ---- the parts of a tape
 
@@ -215,9 +218,6 @@ module _ (t d : List ℕ) (are : AreBytes t) (e : parse t d ≡ some (book_at t 
       tape_is ∙ ap (λ (l : List ℕ). h ++ (layers_bytes b ++ l)) (list_parts b) ∙ parted h (layers_bytes b) n (rest_bytes b) in
       let x = length-append before (rest_bytes b) in
       ap (drop (places t).pairs_at) split ∙ drop_at before (rest_bytes b) (places t).pairs_at (omega (arith, ap length split, x, rest_count))
-    where
-      parted : (h l n r : List ℕ) → h ++ (l ++ (n ++ r)) ≡ (h ++ (l ++ n)) ++ r
-      parted h l n r = simp append_assoc
 
   bytes_are : d ≡ (b.sanitized ++ b.normalized) ++ strings_bytes b
   bytes_are = sym again.1 ∙ bytes_parts b

@@ -1,5 +1,5 @@
 -- Every book that a tape of bytes holds is one whose numbers fit.
-use Rattle.std.specs.Prelude.{◌≡◌, ℕ, zero, suc, ◌+◌, ◌*◌, ◌<◌, Bool, true, false, length, take, drop, ltb}
+use Rattle.std.specs.Prelude.{◌≡◌, ℕ, ◌+◌, ◌*◌, ◌<◌, Bool, true, false, length, take, drop, ltb}
 use Rattle.std.proofs.Math.Path.{refl, ap, subst}
 use Rattle.std.proofs.Common.{◌∙◌, length-take, lt-ltb, ltb-true, ltb-false}
 use native.Mathlib.Omega.{arith}
@@ -7,12 +7,13 @@ use Rattle.std.proofs.Math.Bool.{not}
 use Rattle.std.proofs.Math.Option.{some}
 use mathlib.Core.List.{List, [], ◌∷◌}
 use Rattle.std.proofs.Math.ListN.{get_or-eq_default}
-use Rattle.model.specs.Lists.{all, tabulate, is_empty}
+use Rattle.model.specs.Lists.{all, is_empty}
 use Rattle.model.specs.Bytes.{AreBytes, byte_at, word_at}
 use Rattle.model.specs.Types.{LexOutput}
 use Rattle.model.specs.Tape.{Operand, Operand.byte, Operand.word, operand_size, value_at, Codec, record_size, operands_at, record_at, records_at, string_codec, content_codec, segment_codec, node_codec, pair_codec, container_codec, diagnostic_codec}
 use Rattle.model.specs.Tape.{LayerPlaces, places, string_lengths, pieces, layer_at, layers_at, book_at, parse}
-use Rattle.laws.specs.Lists.{both, join}
+use Rattle.facts.specs.Truth.{both, join}
+use Rattle.facts.specs.Keep.{all_tabulated}
 use Rattle.laws.specs.Fits.{is_word, operand_fits, operands_fit, record_fits, layer_fits, fits}
 use Rattle.laws.specs.Records.{Lawful, content_lawful, segment_lawful, node_lawful, pair_lawful, container_lawful, diagnostic_lawful}
 use Rattle.laws.specs.RoundTrip.{parse_laid_out}
@@ -49,13 +50,9 @@ module _ (t : List ℕ) (bytes : AreBytes t) where
   unfolding record_fits
   record_fits_lem c lawful p = ap (operands_fit c.operands) (lawful.read t p) ∙ operands_fit_lem c.operands p 1
 
-  all_tabulate : {A : Type 0} (test : A → Bool) (n : ℕ) (f : ℕ → A) → ((i : ℕ) → test (f i) ≡ true) → all test (tabulate n f) ≡ true
-  all_tabulate test zero f h = refl
-  all_tabulate test (suc n) f h = join (test (f zero)) _ (h zero) (all_tabulate test n (λ i. f (suc i)) (λ i. h (suc i)))
-
   records_fit : {A : Type 0} (c : Codec A) → Lawful c → (p n : ℕ) → all (record_fits c) (records_at c t p n) ≡ true
   unfolding records_at
-  records_fit c lawful p n = all_tabulate (record_fits c) n (λ i. record_at c t (p + record_size c * i)) (λ i. record_fits_lem c lawful (p + record_size c * i))
+  records_fit c lawful p n = all_tabulated (record_fits c) n (λ i. record_at c t (p + record_size c * i)) (λ i. record_fits_lem c lawful (p + record_size c * i))
 
   -- a part of the bytes is as long as a word says, or shorter
   take_fits : (n : ℕ) (d : List ℕ) → n < 4294967296 → is_word (length (take n d)) ≡ true
@@ -70,7 +67,7 @@ module _ (t : List ℕ) (bytes : AreBytes t) where
 
   lengths_fit : (l : LayerPlaces) → all is_word (string_lengths t l) ≡ true
   unfolding string_lengths records_at string_codec record_at operands_at
-  lengths_fit l = all_tabulate is_word l.string_count _ (λ i. value_fits word (l.strings_at + 5 * i + 1))
+  lengths_fit l = all_tabulated is_word l.string_count _ (λ i. value_fits word (l.strings_at + 5 * i + 1))
 
   layers_fit : (ls : List LayerPlaces) (d : List ℕ) → all layer_fits (layers_at t ls d) ≡ true
   unfolding layers_at layer_at layer_fits

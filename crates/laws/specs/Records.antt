@@ -15,8 +15,10 @@ use Rattle.model.specs.Lists.{all, tabulate, sum}
 use Rattle.model.specs.Bytes.{AreBytes, byte_at, part}
 use Rattle.model.specs.Tape.{Operand, Operand.byte, Operand.word, operand_size, value_at, value_bytes, Codec, record_size, operands_at, record_at, operand_bytes, record_bytes, records_at, records_bytes, records_in, count_at}
 use Rattle.model.specs.Tape.{string_codec, content_codec, segment_codec, node_codec, pair_codec, container_codec, diagnostic_codec}
-use Rattle.laws.specs.Lists.{both}
-use Rattle.laws.specs.Words.{part_cons, part_add, word_read, Stands, stands_behind, stands_at, byte_stands, word_length, word_stands}
+use Rattle.facts.specs.Truth.{both}
+use Rattle.facts.specs.Lists.{part_cons, part_add, tabulate_same, length_tabulate}
+use Rattle.facts.specs.Words.{word_length}
+use Rattle.laws.specs.Words.{word_read, Stands, stands_behind, stands_at, byte_stands, word_stands}
 use Rattle.laws.specs.Fits.{operand_fits, operands_fit, record_fits}
 
 -- ---- the two laws of a codec, which hold by computation
@@ -117,7 +119,7 @@ module _ {A : Type 0} (c : Codec A) (lawful : Lawful c) where
 -- ---- how many records stand one behind the other
 
 -- passing bytes and dropping them is the same
-records_skip : (command size k : ℕ) (t : List ℕ) → records_in command size k t ≡ records_in command size 0 (drop k t)
+pub records_skip : (command size k : ℕ) (t : List ℕ) → records_in command size k t ≡ records_in command size 0 (drop k t)
 unfolding records_in
 records_skip command size zero t = refl
 records_skip command size (suc k) [] = refl
@@ -201,15 +203,15 @@ module _ {A : Type 0} (c : Codec A) (lawful : Lawful c) (t : List ℕ) (b : AreB
 
 -- ---- a run written and read again
 
+pub run_length : {A : Type 0} (c : Codec A) (t : List ℕ) (p n : ℕ) → length (records_at c t p n) ≡ n
+unfolding records_at
+run_length c t p n = length_tabulate n (λ i. record_at c t (p + record_size c * i))
+
 -- what is read of a run at p: how many records, which, and what stands behind them
 pub record RunStands {A : Type 0} (c : Codec A) (t : List ℕ) (p : ℕ) (xs : List A) (l : List ℕ) : Type 0 where
   pub count : count_at c t p ≡ length xs
   pub records : records_at c t p (count_at c t p) ≡ xs
   pub rest : Stands t (p + record_size c * count_at c t p) l
-
-pub tabulate_same : {A : Type 0} (n : ℕ) (f g : ℕ → A) → ((i : ℕ) → f i ≡ g i) → tabulate n f ≡ tabulate n g
-tabulate_same zero f g e = refl
-tabulate_same (suc n) f g e = ap₂ (λ x xs. x ∷ xs) (e zero) (tabulate_same n (λ i. f (suc i)) (λ i. g (suc i)) (λ i. e (suc i)))
 
 module _ {A : Type 0} (c : Codec A) (t : List ℕ) where
   -- what stands at p begins with another command: no record
@@ -233,27 +235,35 @@ module _ {A : Type 0} (c : Codec A) (t : List ℕ) where
   not_head k other (x ∷ xs) l ne e = other e
 
 module _ {A : Type 0} (c : Codec A) (lawful : Lawful c) (t : List ℕ) where
-  -- A run is read where it stands, as long as what follows begins with another command.
-  pub run_stands : (xs : List A) → all (record_fits c) xs ≡ true → (p : ℕ) (l : List ℕ) → (byte_at l 0 ≡ c.command → ⊥) → Stands t p (records_bytes c xs ++ l) → RunStands c t p xs l
+  -- A run of known length is read where it stands, whatever follows.
+  pub records_stand : (xs : List A) → all (record_fits c) xs ≡ true → (p : ℕ) (l : List ℕ) → Stands t p (records_bytes c xs ++ l) → records_at c t p (length xs) ≡ xs
   unfolding records_bytes flatten records_at
-  run_stands [] ok p l ne h =
-      let none = stands_no c t p l h ne in
-      record {
-        count = none;
-        records = ap (λ (n : ℕ). tabulate n (λ i. record_at c t (p + record_size c * i))) none;
-        rest = stands_at t p (p + record_size c * count_at c t p) l (sym (ap (λ (n : ℕ). p + record_size c * n) none ∙ first_place c p)) h;
-      }
-  run_stands (x ∷ xs) ok p l ne h =
+  records_stand [] ok p l h = refl
+  records_stand (x ∷ xs) ok p l h =
       let f = both (record_fits c x) (all (record_fits c) xs) ok in
       let tail = records_bytes c xs ++ l in
       let here : Stands t p (record_bytes c x ++ tail) = h ∙ append_assoc (record_bytes c x) (records_bytes c xs) l in
-      let more = run_stands xs f.1 (p + record_size c) l ne (stands_behind t p (record_size c) (record_bytes c x) tail (record_length c lawful x f.0) here) in
       let first : record_at c t (p + record_size c * 0) ≡ x = ap (record_at c t) (first_place c p) ∙ record_stands c lawful t x f.0 p tail here in
+      let later = tabulate_same (length xs) (λ i. record_at c t (p + record_size c * suc i)) (λ i. record_at c t (p + record_size c + record_size c * i)) (λ i h. ap (record_at c t) (next_place c p i)) in
+      ap₂ (λ y ys. y ∷ ys) first (later ∙ records_stand xs f.1 (p + record_size c) l (stands_behind t p (record_size c) (record_bytes c x) tail (record_length c lawful x f.0) here))
+
+  -- How long it is says the command of what follows, if it is another.
+  run_count : (xs : List A) → all (record_fits c) xs ≡ true → (p : ℕ) (l : List ℕ) → (byte_at l 0 ≡ c.command → ⊥) → Stands t p (records_bytes c xs ++ l)
+      → (count_at c t p ≡ length xs) × Stands t (p + record_size c * count_at c t p) l
+  unfolding records_bytes flatten
+  run_count [] ok p l ne h =
+      let none = stands_no c t p l h ne in
+      (none, stands_at t p (p + record_size c * count_at c t p) l (sym (ap (λ (n : ℕ). p + record_size c * n) none ∙ first_place c p)) h)
+  run_count (x ∷ xs) ok p l ne h =
+      let f = both (record_fits c x) (all (record_fits c) xs) ok in
+      let tail = records_bytes c xs ++ l in
+      let here : Stands t p (record_bytes c x ++ tail) = h ∙ append_assoc (record_bytes c x) (records_bytes c xs) l in
+      let more = run_count xs f.1 (p + record_size c) l ne (stands_behind t p (record_size c) (record_bytes c x) tail (record_length c lawful x f.0) here) in
       let one = stands_yes c t p x tail here in
       let count = count_at c t (p + record_size c) in
-      let later = tabulate_same count (λ i. record_at c t (p + record_size c * suc i)) (λ i. record_at c t (p + record_size c + record_size c * i)) (λ i. ap (record_at c t) (next_place c p i)) in
-      record {
-        count = one ∙ ap suc more.count;
-        records = ap (λ (n : ℕ). tabulate n (λ i. record_at c t (p + record_size c * i))) one ∙ ap₂ (λ y ys. y ∷ ys) first (later ∙ more.records);
-        rest = stands_at t (p + record_size c + record_size c * count) (p + record_size c * count_at c t p) l (sym (ap (λ (n : ℕ). p + record_size c * n) one ∙ next_place c p count)) more.rest;
-      }
+      (one ∙ ap suc more.0, stands_at t (p + record_size c + record_size c * count) (p + record_size c * count_at c t p) l (sym (ap (λ (n : ℕ). p + record_size c * n) one ∙ next_place c p count)) more.1)
+
+  pub run_stands : (xs : List A) → all (record_fits c) xs ≡ true → (p : ℕ) (l : List ℕ) → (byte_at l 0 ≡ c.command → ⊥) → Stands t p (records_bytes c xs ++ l) → RunStands c t p xs l
+  run_stands xs ok p l ne h =
+      let n = run_count xs ok p l ne h in
+      record { count = n.0; records = ap (records_at c t p) n.0 ∙ records_stand xs ok p l h; rest = n.1 }

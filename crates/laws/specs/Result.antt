@@ -9,7 +9,7 @@ use Rattle.model.specs.Tape.{tape_of, bytes_of}
 use Rattle.model.specs.WellFormed.{within_limits}
 use Rattle.model.specs.Graft.{With}
 use Rattle.model.specs.Merge.{Room, stored_book, fits_room, result_ok}
-use Rattle.laws.specs.Lists.{both}
+use Rattle.facts.specs.Truth.{both}
 use Rattle.laws.specs.Checks.{LimitFacts, limit_facts}
 
 -- the end of a call that 18 alone can still refuse

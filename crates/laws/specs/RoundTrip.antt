@@ -8,8 +8,9 @@ use Rattle.model.specs.Bytes.{AreBytes, byte_at, word_at, word_bytes, part}
 use Rattle.model.specs.Types.{Layer, LexOutput}
 use Rattle.model.specs.Tape.{records_at, records_bytes, count_at, string_codec, content_codec, segment_codec, node_codec, pair_codec, container_codec, diagnostic_codec}
 use Rattle.model.specs.Tape.{LayerPlaces, layer_places, layers_from, layers_end, places, framed, string_lengths, pieces, layer_at, layers_at, bytes_needed, book_at, book_shape, if_shaped, parse, layer_bytes, tape_of, bytes_of}
-use Rattle.laws.specs.Lists.{both}
-use Rattle.laws.specs.Words.{part_cons, part_add, word_read}
+use Rattle.facts.specs.Truth.{both}
+use Rattle.facts.specs.Lists.{part_cons, part_add}
+use Rattle.laws.specs.Words.{word_read}
 use Rattle.laws.specs.Records.{records_read, string_lawful, content_lawful, segment_lawful, node_lawful, pair_lawful, container_lawful, diagnostic_lawful}
 
 -- ---- what `parse` tests

@@ -4,6 +4,7 @@ use Rattle.std.proofs.Common.{sym, ap, ap₂, ◌∙◌, zero-add, suc-add, arit
 use Rattle.std.proofs.Math.ListN.{get_or-append}
 use Rattle.std.proofs.Math.Seq.{take-nil, take-append-add, drop-append-add}
 use Rattle.std.proofs.lemmas.List.{take-append-le, drop-append-le}
+use Rattle.facts.specs.Lists.{head_length}
 
 -- the part from a to b replaced
 abbrev pub splice : ℕ → ℕ → List ℕ → List ℕ → List ℕ
@@ -24,7 +25,7 @@ module _ (a b : ℕ) (r t : List ℕ) (h₁ : a ≤ b) (h₂ : b ≤ length t) w
       omega arith
 
   long : length (take a t ++ r) ≡ a + length r
-  long = let e = length-take-le a t (omega arith) in length-append (take a t) r ∙ ap (λ (k : ℕ). k + length r) e
+  long = head_length t a r (omega arith)
 
   -- at or before the part: as it was
   pub take_splice_front : (n : ℕ) → n ≤ a → take n (splice a b r t) ≡ take n t

@@ -7,8 +7,9 @@ use Rattle.model.specs.Lists.{all, any, same, is_empty}
 use Rattle.model.specs.Limits.{initial_capacity, load_factor_numerator, load_factor_denominator}
 use Rattle.model.specs.Intern.{StrInterner, Probe, fresh_interner, fx_hash, holds, probe, empty_slot, move_slots, grows, table_for}
 use Rattle.model.specs.Ceiling.{distinct_short}
-use Rattle.laws.specs.Lists.{both, join, either, neither, same_eq, same_refl, same_sym}
-use Rattle.laws.specs.Keep.{all_get, all_set}
+use Rattle.facts.specs.Truth.{both, join, either, neither}
+use Rattle.facts.specs.Lists.{same_eq, same_refl, same_sym}
+use Rattle.facts.specs.Keep.{all_get, all_set}
 use Rattle.laws.specs.Intern.{Below, below_zeros, below_more}
 use Rattle.laws.specs.Slots.{taken, taken_le, taken_zeros, taken_set, gap, empty_inside, empty_empty, moved_length, moved_taken}
 use Rattle.laws.specs.Probe.{probe_grown, probe_set, put_found}

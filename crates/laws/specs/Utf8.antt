@@ -4,7 +4,7 @@ use Rattle.std.proofs.Common.{sym, ap, ◌∙◌, arith, add-zero, take-append-d
 use Rattle.std.proofs.Math.Bool.{and-false}
 use Rattle.std.proofs.lemmas.Bool.{false≢true, not-true, lt-leb}
 use Rattle.model.specs.Utf8.{within, Utf8State, Utf8State.between, Utf8State.tail1, Utf8State.tail2, Utf8State.tail3, Utf8State.after_e0, Utf8State.after_ed, Utf8State.after_f0, Utf8State.after_f4, Utf8State.bad, utf8_first, utf8_step, utf8_from, is_between, utf8, is_char_boundary}
-use Rattle.laws.specs.Lists.{both, join}
+use Rattle.facts.specs.Truth.{both, join}
 use Rattle.laws.specs.Splice.{splice}
 
 from_append : (s : Utf8State) (a b : List ℕ) → utf8_from s (a ++ b) ≡ utf8_from (utf8_from s a) b

@@ -1,15 +1,11 @@
--- Words and parts of a tape: read and written again, written and read again. Section 4.
-use Rattle.std.specs.Prelude.{◌≡◌, refl, ℕ, suc, ◌+◌, ◌*◌, ◌/◌, ◌%◌, ◌≤◌, ◌<◌, List, [], ◌∷◌, ◌++◌, length, get_or, take, drop}
-use Rattle.std.proofs.Common.{sym, ap, ◌∙◌, arith, add-one, add-zero, drop-cons, drop-drop, get_or-drop, take-add, drop_at}
+-- Words of a tape: read and written again, written and read again. Section 4.
+use Rattle.std.specs.Prelude.{◌≡◌, ℕ, ◌+◌, ◌*◌, ◌/◌, ◌%◌, ◌≤◌, ◌<◌, List, [], ◌∷◌, ◌++◌, length, get_or, drop}
+use Rattle.std.proofs.Common.{sym, ap, ◌∙◌, arith, add-zero, drop-drop, get_or-drop, drop_at}
 use Rattle.model.specs.Bytes.{AreBytes, byte_at, word_at, word_bytes, part}
+use Rattle.facts.specs.Lists.{part_cons}
+use Rattle.facts.specs.Words.{word_digits}
 
--- ---- parts
-
-pub part_cons : (t : List ℕ) (p n : ℕ) → p < length t → part t p (suc n) ≡ byte_at t p ∷ part t (p + 1) n
-part_cons t p n h = rw (add-one p, drop-cons t p 0 h)
-
-pub part_add : (t : List ℕ) (p n m : ℕ) → part t p (n + m) ≡ part t p n ++ part t (p + n) m
-part_add t p n m = take-add n m (drop p t) ∙ ap (λ (l : List ℕ). part t p n ++ take m l) (drop-drop n p t)
+-- ---- a word read and written again
 
 part_four : (t : List ℕ) (p : ℕ) → p + 4 ≤ length t
     → part t p 4 ≡ byte_at t p ∷ byte_at t (p + 1) ∷ byte_at t (p + 2) ∷ byte_at t (p + 3) ∷ []
@@ -20,8 +16,6 @@ part_four t p h =
     (part_cons t (p + 1) 2 (omega arith) ∙ ap (λ (l : List ℕ). byte_at t (p + 1) ∷ l)
     (ap (λ (k : ℕ). part t k 2) e₁ ∙ part_cons t (p + 2) 1 (omega arith) ∙ ap (λ (l : List ℕ). byte_at t (p + 2) ∷ l)
     (ap (λ (k : ℕ). part t k 1) e₂ ∙ part_cons t (p + 3) 0 (omega arith))))
-
--- ---- a word read and written again
 
 digits : (a b c d : ℕ) → a < 256 → b < 256 → c < 256 → d < 256
     → word_bytes (a + 256 * b + 65536 * c + 16777216 * d) ≡ a ∷ b ∷ c ∷ d ∷ []
@@ -62,18 +56,6 @@ byte_stands t p l h = ap (λ (k : ℕ). byte_at t k) (sym (add-zero p)) ∙ sym 
 
 -- ---- a word written and read again
 
--- a number below 2 ^ 32, out of its four bytes
-four : (n : ℕ) → n < 4294967296 → n % 256 + 256 * (n / 256 % 256) + 65536 * (n / 65536 % 256) + 16777216 * (n / 16777216 % 256) ≡ n
-four n h =
-    let e₁ : n / 256 ≡ 256 * (n / 65536) + n / 256 % 256 = omega arith in
-    let e₂ : n / 65536 ≡ 256 * (n / 16777216) + n / 65536 % 256 = omega arith in
-    let e₃ : n / 16777216 % 256 ≡ n / 16777216 = omega arith in
-    omega arith
-
-pub word_length : (n : ℕ) → length (word_bytes n) ≡ 4
-unfolding word_bytes
-word_length n = refl
-
 pub word_stands : (t : List ℕ) (p n : ℕ) (l : List ℕ) → n < 4294967296 → Stands t p (word_bytes n ++ l) → word_at t p ≡ n
 unfolding word_bytes word_at
 word_stands t p n l small h =
@@ -82,4 +64,4 @@ word_stands t p n l small h =
     let e₁ : get_or t (p + 1) 0 ≡ n / 256 % 256 = at 1 in
     let e₂ : get_or t (p + 2) 0 ≡ n / 65536 % 256 = at 2 in
     let e₃ : get_or t (p + 3) 0 ≡ n / 16777216 % 256 = at 3 in
-    rw (e₀, e₁, e₂, e₃) (four n small)
+    rw (e₀, e₁, e₂, e₃) (word_digits n small)

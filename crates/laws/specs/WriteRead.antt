@@ -9,8 +9,9 @@ use Rattle.model.specs.Bytes.{byte_at, word_at, word_bytes}
 use Rattle.model.specs.Types.{Layer, LexOutput}
 use Rattle.model.specs.Tape.{records_at, records_bytes, string_codec, content_codec, segment_codec, node_codec, pair_codec, container_codec, diagnostic_codec}
 use Rattle.model.specs.Tape.{LayerPlaces, layer_places, layers_from, layers_end, places, framed, string_lengths, pieces, layer_at, layers_at, bytes_needed, book_at, book_shape, if_shaped, parse, layer_bytes, tape_of, bytes_of}
-use Rattle.laws.specs.Lists.{both, join}
-use Rattle.laws.specs.Words.{Stands, stands_behind, byte_stands, word_length, word_stands}
+use Rattle.facts.specs.Truth.{both, join}
+use Rattle.facts.specs.Words.{word_length}
+use Rattle.laws.specs.Words.{Stands, stands_behind, byte_stands, word_stands}
 use Rattle.laws.specs.Fits.{is_word, operands_fit, record_fits, layer_fits, fits}
 use Rattle.laws.specs.Records.{run_stands, not_head, string_lawful, content_lawful, segment_lawful, node_lawful, pair_lawful, container_lawful, diagnostic_lawful}
 use Rattle.laws.specs.RoundTrip.{string_bytes}

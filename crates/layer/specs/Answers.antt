@@ -4,7 +4,7 @@ use Rattle.std.specs.Prelude.{◌≡◌, Option, Some, None, is_some, ℕ, ◌+�
 use Rattle.std.proofs.Math.Path.{refl, sym, ap}
 use Rattle.std.proofs.Common.{ap₂, ◌∙◌, arith, length-take-le}
 use Rattle.std.proofs.Math.Bool.{true, false, true≢false}
-use mathlib.Core.List.{List, ◌∷◌, ◌++◌, map, flatten, append_assoc}
+use mathlib.Core.List.{List, ◌∷◌, ◌++◌, map, flatten}
 use Rattle.std.proofs.Math.ListN.{length, take, length-append}
 use borrow.Author.Tests.{le-leb, leb-true}
 use Rattle.model.specs.Limits.{max_pool, max_list, max_new_strings}
@@ -12,8 +12,8 @@ use Rattle.model.specs.Intern.{StrInterner}
 use Rattle.model.specs.Types.{SourceNode}
 use Rattle.model.specs.Tape.{records_bytes, string_codec, content_codec, segment_codec, node_codec, layer_bytes}
 use Rattle.model.specs.Graft.{layer_of, With}
-use Rattle.laws.specs.Lists.{both}
-use Rattle.wire.specs.Loops.{by_bool}
+use Rattle.facts.specs.Truth.{both, by_bool}
+use Rattle.facts.specs.Lists.{parted}
 use Rattle.wire.specs.Overwrite.{overwrite}
 use Rattle.interner.specs.State.{state_of, has_room}
 use Rattle.stats.specs.Counts.{stats_of}
@@ -103,9 +103,6 @@ pub left_limited : {m : Room} (o : Totals) {nodes : ℕ} → m ≡ room_left o �
 left_limited o e h = record { contents = omega (arith, ap (λ (x : Room). x.contents) e); segments = omega (arith, ap (λ (x : Room). x.segments) e); few = h }
 
 -- ---- refusals
-
-same_records : (xs ys zs us : List ℕ) → xs ++ (ys ++ (zs ++ us)) ≡ (xs ++ (ys ++ zs)) ++ us
-same_records xs ys zs us = simp append_assoc
 
 module _ (out strs : List ℕ) (at base : ℕ) (o : Totals) (small : TotalsFit o) (g : With (List SourceNode)) {a : Added} {nodes : ℕ} (z : LayerSizes g a nodes) where
   abbrev Fits : Type 0
@@ -199,7 +196,7 @@ module _ (out strs : List ℕ) (at base : ℕ) (o : Totals) (small : TotalsFit o
               let y : length (cs ++ (ss ++ ns)) ≡ len - 1 + rest = omega (arith, length-append cs (ss ++ ns), length-append ss ns, z.content_bytes, z.segment_bytes, z.node_bytes, k.contents, k.segments, e, f) in
               moved_written out at rs (cs ++ (ss ++ ns)) (omega (arith, c, y, e, h, (fit x).1)) (len - 1 + rest) 2 (sym y) one_run
               (q.wrote x ∙ ap (λ (v : List ℕ). overwrite out₁ at (2 ∷ (v ++ take (len - 1 + rest) (drop (at + 1) out₁)))) b)
-              ∙ ap (λ (v : List ℕ). overwrite out at (2 ∷ v)) (same_records rs cs ss ns)
+              ∙ ap (λ (v : List ℕ). overwrite out at (2 ∷ v)) (parted rs cs ss ns)
 
           strings_full : is_some r ≡ false → Fits → ⊥
           strings_full x y = true≢false (

@@ -15,8 +15,7 @@ use Rattle.model.specs.Tape.{records_bytes, string_codec, content_codec, segment
 use Rattle.model.specs.Tree.{shown_node, shown_nodes}
 use Rattle.model.specs.Graft.{NewLayer, layered, layer_of, With, graft_node_refs}
 use Rattle.model.specs.Merge.{grafted}
-use Rattle.laws.specs.Lists.{both}
-use Rattle.wire.specs.Loops.{by_bool}
+use Rattle.facts.specs.Truth.{both, by_bool}
 use Rattle.sizes.specs.declared.Room.{Room}
 use Rattle.sizes.specs.Added.{Added}
 use Rattle.sizes.specs.Trees.{nodes_size, node_refs_grow}

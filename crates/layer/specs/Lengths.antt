@@ -1,12 +1,14 @@
 -- The lengths of the interner's strings, by the places where they start among the work words, and their records.
 use Rattle.std.specs.Prelude.{◌≡◌, get_or, drop}
 use Rattle.std.proofs.Math.Path.{refl, ap, ap₂}
-use Rattle.std.proofs.Common.{sym, ◌∙◌, arith, length-append, length-drop, length-take-le}
+use Rattle.std.proofs.Common.{sym, ◌∙◌, arith, length-drop, length-take-le}
 use Prim.Native.Nat.{ℕ, zero, suc, ◌+◌, ◌-◌, ◌*◌, ◌%◌, ◌≤◌, ◌<◌}
 use mathlib.Core.List.{List, [], ◌∷◌, ◌++◌, map, append-nil, flatten}
 use Rattle.std.proofs.Math.ListN.{length}
 use Rattle.model.specs.Bytes.{word_bytes}
 use Rattle.model.specs.Tape.{record_bytes, operand_bytes, records_bytes, string_codec}
+use Rattle.facts.specs.Lists.{map_append}
+use Rattle.laws.specs.Parts.{records_width, bytes_append}
 use Rattle.wire.specs.Overwrite.{overwrite, overwrite_next, overwrite_nil, Wrote}
 use Rattle.wire.specs.Loops.{list_to, list_more, length_list_to}
 use Rattle.table.specs.Layout.{start_in, starts_of, string_at, strings_up_to}
@@ -14,7 +16,6 @@ use Rattle.table.specs.Wide.{starts_number, start_is}
 use Rattle.interner.specs.declared.StrInterner.{StrInterner as Interner}
 use Rattle.interner.specs.State.{state_of, Good}
 use Rattle.put_records.specs.Written.{word_rest}
-use Rattle.put_records.specs.Runs.{bytes_append}
 
 -- the length of string k
 abbrev pub new_length : List ℕ → ℕ → ℕ
@@ -49,9 +50,8 @@ unfolding record_bytes operand_bytes string_codec word_bytes
 string_width n = refl
 
 pub strings_width : (ns : List ℕ) → length (records_bytes string_codec ns) ≡ 5 * length ns
-unfolding records_bytes flatten
-strings_width [] = refl
-strings_width (n ∷ ns) = length-append (record_bytes string_codec n) (records_bytes string_codec ns) ∙ (let x = string_width n in let y = strings_width ns in omega (arith, x, y))
+unfolding string_codec
+strings_width = records_width string_codec (λ n. refl)
 
 -- ---- the loop
 
@@ -82,10 +82,6 @@ module _ (d : List ℕ) (at : ℕ) (work : List ℕ) where
 
 -- ---- the interner's strings
 
-map_append : (xs ys : List (List ℕ)) → map length (xs ++ ys) ≡ map length xs ++ map length ys
-map_append [] ys = refl
-map_append (x ∷ xs) ys = ap (λ (l : List ℕ). length x ∷ l) (map_append xs ys)
-
 module _ {work strs : List ℕ} {st : Interner} (g : Good work strs st) where
   room : 8192 + 2 * st.count + 2 ≤ length work
   room = omega (arith, g.words.room, g.words.few)
@@ -115,7 +111,7 @@ module _ {work strs : List ℕ} {st : Interner} (g : Good work strs st) where
   lengths_to zero h = refl
   lengths_to (suc n) h =
       let starts = starts_of st.count work in
-      map_append (strings_up_to n starts strs) (string_at starts strs n ∷ [])
+      map_append length (strings_up_to n starts strs) (string_at starts strs n ∷ [])
       ∙ ap₂ (λ (l : List ℕ) (k : ℕ). l ++ (k ∷ [])) (lengths_to n (omega (arith, h))) (string_long n (omega (arith, h)))
 
   pub string_lengths_lem : map length (state_of work strs st).strings ≡ new_lengths work st.count

@@ -5,8 +5,8 @@ use Rattle.model.specs.Store.{store_of, resolve_str}
 use Rattle.model.specs.Tape.{book_at}
 use Rattle.strings.specs.declared.lent.Strings.{Strings}
 use Rattle.strings.specs.Lent.{lent_store, string_in}
-use Rattle.region.specs.declared.book.Book.{Book}
-use Rattle.region.specs.Books.{StringsOf}
+use Rattle.tape.specs.declared.book.Book.{Book}
+use Rattle.tape.specs.StringBytes.{StringsOf}
 use Rattle.representatives.specs.Pairs.{Pairs}
 use Rattle.graft.specs.Named.{source_store}
 

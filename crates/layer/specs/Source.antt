@@ -1,5 +1,5 @@
--- A source that passed 1 to 7, its places and its store: what follows for the code that counts and grafts its nodes.
-use Rattle.std.specs.Prelude.{◌≡◌, ℕ, ◌+◌, ◌*◌, ◌^◌, ◌≤◌, ◌<◌, true, List, length}
+-- An opened book whose nodes are counted and grafted: what follows for the code that does.
+use Rattle.std.specs.Prelude.{◌≡◌, ℕ, ◌+◌, ◌≤◌, true, List}
 use Rattle.std.proofs.Math.Path.{sym, ap}
 use Rattle.std.proofs.Common.{◌∙◌, arith}
 use Rattle.std.proofs.Math.ListN.{drop}
@@ -8,37 +8,25 @@ use Rattle.model.specs.Limits.{max_list}
 use Rattle.model.specs.Bytes.{word_at}
 use Rattle.model.specs.Tape.{records_at, node_codec, places, book_at}
 use Rattle.model.specs.Tree.{shown_nodes}
-use Rattle.laws.specs.Lists.{both}
+use Rattle.facts.specs.Truth.{both}
 use Rattle.laws.specs.Checks.{limit_facts}
 use Rattle.laws.specs.Layers.{ids_pools}
 use Rattle.places.specs.declared.Places.{Places}
 use Rattle.places.specs.Found.{found}
 use Rattle.store.specs.declared.Store.{Store}
 use Rattle.store.specs.Lengths.{book_lengths}
-use Rattle.strings.specs.Starts.{Readable, readable}
 use Rattle.ids.specs.Tests.{node_in}
-use Rattle.ids.specs.Whole.{IdsFit, ids_in, layers_in, ids_are, content_ok_lem, segment_ok_lem}
-use Rattle.tape.specs.Accepted.{accepted_places, accepted_store}
-use Rattle.tape.specs.Placed.{fit_nodes}
-use Rattle.tape.specs.Numbers.{store_few, pools_ids, pools_levels}
-use Rattle.sizes.specs.InPlace.{nodes_add}
-use Rattle.sizes.specs.Trees.{nodes_size}
-use Rattle.sizes.specs.Shown.{shown_nodes_add}
-use Rattle.region.specs.Held.{Held}
+use Rattle.ids.specs.Whole.{ids_in, layers_in, content_ok_lem, segment_ok_lem}
+use Rattle.tape.specs.Held.{Held, held_tape}
+use Rattle.sizes.specs.Calls.{held_ids}
 use Rattle.graft.specs.Walk.{Source}
 use Rattle.graft.specs.NodeItems.{shown_of, shown_map}
 
-abbrev pub SourceFits : List ℕ → List ℕ → Places → Store → Type 0
-SourceFits = Held
-
-module _ {t d : List ℕ} {p : Places} {st : Store} (f : SourceFits t d p st) where
+module _ {t d : List ℕ} {p : Places} {st : Store} (f : Held t d p st) where
   -- ---- its lists
 
   pub source_few : p.nodes.count ≤ max_list
   source_few = let l = limit_facts (book_at t (places t) d) f.accepted.limits in let b = book_lengths t d p f.accepted.framing f.is in omega (arith, l.source_nodes, b.nodes)
-
-  pub source_inside : p.nodes.at + 49 * p.nodes.count ≤ length t
-  source_inside = fit_nodes (accepted_places f.accepted f.is)
 
   nodes_at_lem : p.nodes.at ≡ (places t).nodes_at
   unfolding found
@@ -55,18 +43,9 @@ module _ {t d : List ℕ} {p : Places} {st : Store} (f : SourceFits t d p st) wh
 
   -- ---- number 4
 
-  pub source_ids : IdsFit t st p
-  source_ids = pools_ids (accepted_places f.accepted f.is) (accepted_store f.accepted f.is) f.stored
-
-  pub source_in_lem : ids_in t st ≡ true
-  source_in_lem = ids_are t st f.stored d ∙ f.accepted.ids
-
   pub source_nodes_lem : all (node_in st) (records_at node_codec t p.nodes.at p.nodes.count) ≡ true
   unfolding ids_in
-  source_nodes_lem = rw (nodes_at_lem, node_count_lem) (both (layers_in t st) (all (node_in st) (records_at node_codec t (places t).nodes_at (places t).node_count)) source_in_lem).1
-
-  pub source_adds_lem : nodes_add t st p.nodes.at p.nodes.count ≡ nodes_size (shown_nodes (book_at t (places t) d))
-  source_adds_lem = (λ i. nodes_add t st (nodes_at_lem i) (node_count_lem i)) ∙ shown_nodes_add t st f.stored source_in_lem d
+  source_nodes_lem = rw (nodes_at_lem, node_count_lem) (both (layers_in t st) (all (node_in st) (records_at node_codec t (places t).nodes_at (places t).node_count)) (held_ids f)).1
 
   pub source_of : Source t d st
   unfolding book_at
@@ -74,13 +53,8 @@ module _ {t d : List ℕ} {p : Places} {st : Store} (f : SourceFits t d p st) wh
       let rest = drop (word_at t 1 + word_at t 5) d in
       let pools = ids_pools (book_at t (places t) d) f.accepted.ids in
       record {
-        fit = pools_levels (accepted_places f.accepted f.is) (accepted_store f.accepted f.is) f.stored;
+        fit = held_tape f;
         framing = f.accepted.framing;
         contents = rw (content_ok_lem t st f.stored rest) pools.0;
         segments = rw (segment_ok_lem t st f.stored rest) pools.1;
       }
-
-  -- ---- what the code asks
-
-  pub source_readable : length d < 2 ^ 63 → Readable t st (length d)
-  source_readable h = readable t d f.accepted.framing st f.stored (store_few (accepted_places f.accepted f.is) (accepted_store f.accepted f.is) f.stored) h

@@ -29,7 +29,9 @@ use Rattle.graft.specs.Grafted.{layer_from}
 use Rattle.graft.specs.Walk.{index_words, Ready}
 use Rattle.graft.specs.NodeItems.{shown_of, NodesTold, refs_from}
 use Rattle.store.specs.declared.Totals.{Totals}
-use Rattle.layer.specs.Source.{SourceFits, source_adds_lem, source_shown}
+use Rattle.tape.specs.Held.{Held}
+use Rattle.sizes.specs.Calls.{held_adds}
+use Rattle.layer.specs.Source.{source_shown}
 use Rattle.layer.specs.Layered.{new_layer, grafted_into, source_adds, plan_of, LayerSizes, layer_sizes}
 
 abbrev pub offsets_of : Plan → Totals
@@ -83,16 +85,16 @@ pub record Walked (p : Plan) (base nodes_at : ℕ) (out strs out' work' strs' : 
 
 -- a source, an index of its strings, and an interner that has nothing yet
 pub record Begun (t d : List ℕ) (q : Places) (st : Store) (work₀ strs work : List ℕ) (base : ℕ) (s : Interner) : Type 0 where
-  pub source : SourceFits t d q st
+  pub source : Held t d q st
   pub fresh : Fresh work₀ strs base work s
   pub index : Indexed (lengths_in t) (index_words work₀)
 
-pub begun : {t d : List ℕ} {q : Places} {st : Store} → SourceFits t d q st → {work₀ strs work : List ℕ} {base : ℕ} {s : Interner} → Fresh work₀ strs base work s
+pub begun : {t d : List ℕ} {q : Places} {st : Store} → Held t d q st → {work₀ strs work : List ℕ} {base : ℕ} {s : Interner} → Fresh work₀ strs base work s
     → Indexed (lengths_in t) (index_words work₀) → Begun t d q st work₀ strs work base s
 begun f b i = record { source = f; fresh = b; index = i }
 
 module _ {t d : List ℕ} {q : Places} {st : Store} {work₀ strs work : List ℕ} {base : ℕ} {s : Interner} (begin : Begun t d q st work₀ strs work base s) (p : Plan) (nodes_at : ℕ) (out : List ℕ) where
-  f : SourceFits t d q st
+  f : Held t d q st
   f = begin.source
 
   b : Fresh work₀ strs base work s
@@ -102,7 +104,7 @@ module _ {t d : List ℕ} {q : Places} {st : Store} {work₀ strs work : List �
   no_calls = ap (λ (x : StrInterner). x.stats.calls) b.state
 
   pub walk_ready : WalkRoom p nodes_at q.nodes.count (length out) (source_adds t d) → Ready t d p (fresh_mark s) out work strs (nodes_add t st q.nodes.at q.nodes.count)
-  walk_ready w = rw (source_adds_lem f) (record {
+  walk_ready w = rw (held_adds f) (record {
     index = index_kept t work₀ base b.words begin.index;
     good = b.good;
     named = λ m e. absurd (none-some m e);
@@ -118,7 +120,7 @@ module _ {t d : List ℕ} {q : Places} {st : Store} {work₀ strs work : List �
   })
 
   pub walk_low : WalkRoom p nodes_at q.nodes.count (length out) (source_adds t d) → p.segments_at + 37 * (0 + (nodes_add t st q.nodes.at q.nodes.count).segments) ≤ nodes_at
-  walk_low w = rw (source_adds_lem f) (omega (arith, w.segments))
+  walk_low w = rw (held_adds f) (omega (arith, w.segments))
 
   same_layer : layer_from p work strs (fresh_mark s) ≡ new_layer (offsets_of p)
   unfolding new_layer
@@ -170,5 +172,5 @@ pub walked_by : (t d : List ℕ) (o : Totals) (at contents : ℕ) {p : Plan} {ba
 walked_by t d o at contents {base = base} {nodes_at = n} {out = out} {strs = strs} {out' = out'} {work' = work'} {strs' = strs'} {r = r} e w =
     subst (λ (q : Plan). Walked q base n out strs out' work' strs' r (grafted_into t d (offsets_of q))) e w
 
-pub source_sizes : {t d : List ℕ} {q : Places} {st : Store} → SourceFits t d q st → (o : Totals) → LayerSizes (grafted_into t d o) (source_adds t d) q.nodes.count
+pub source_sizes : {t d : List ℕ} {q : Places} {st : Store} → Held t d q st → (o : Totals) → LayerSizes (grafted_into t d o) (source_adds t d) q.nodes.count
 source_sizes {t} {d} {q} f o = layer_sizes t d o (book_lengths t d q f.accepted.framing f.is).nodes

@@ -6,8 +6,9 @@ ghost use Rattle.layer.specs.Layered.{room_left, source_adds};
 ghost use Rattle.layer.specs.Answers.{Exact};
 
 use super::{Grafted, Place};
-use region::Book;
+use numbers::{CONTENT_SIZE, NODE_SIZE, SEGMENT_SIZE, STRING_SIZE};
 use sizes::Sizes;
+use tape::Book;
 
 #[derive(Clone, Copy)]
 pub struct Grafting<'a> {
@@ -33,14 +34,15 @@ impl<'a> Grafting<'a> {
     fn layer_length(&self) -> usize
         ensures { result ≡ layer_length self.now }
     {
-        1 + 10 * (self.sizes.contents as usize) + 37 * (self.sizes.segments as usize)
+        1 + CONTENT_SIZE * (self.sizes.contents as usize)
+            + SEGMENT_SIZE * (self.sizes.segments as usize)
     }
 
     // The bytes of the source's nodes.
     fn nodes_length(&self) -> usize
         ensures { result ≡ nodes_length self.now }
     {
-        49 * self.source.places.nodes.count
+        NODE_SIZE * self.source.places.nodes.count
     }
 
     // The strings' records before what a walk wrote; None where they have no room.
@@ -58,7 +60,7 @@ impl<'a> Grafting<'a> {
         }
         crate::lay_out(out, work, at, len - 1 + rest, count);
         Some(Grafted {
-            len: len + 5 * count,
+            len: len + STRING_SIZE * count,
             strings: count as u32,
             contents: m.contents,
             segments: m.segments,
@@ -119,7 +121,7 @@ impl<'a> Grafting<'a> {
         let source = self.source;
         if representatives::any_long(
             source.tape,
-            source.store,
+            &source.store,
             representatives::long_from(source.bytes.len()),
         ) {
             return self.graft_long(out, work, strs);

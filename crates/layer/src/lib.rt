@@ -25,12 +25,11 @@ ghost use Rattle.layer.specs.Answers.{LayerTold};
 use graft::Walk;
 use grafting::Grafting;
 use interner::StrInterner;
+use numbers::{CONTENT_SIZE, INDEX_AT, MAX_POOL, STRING_SIZE};
 pub use place::Place;
-use region::Book;
 use store::Totals;
 use table::STARTS;
-
-const MAX_POOL: usize = 1048575;
+use tape::Book;
 
 // The layer that was written: the bytes of its records, its command with them, how many items it has, and its interner.
 #[derive(Clone, Copy, Debug, PartialEq, Eq)]
@@ -72,7 +71,7 @@ pub fn put_lengths(out: &mut [u8], at: usize, work: &[u32], count: usize)
     ensures { out.new ≡ overwrite out.old at (records_bytes string_codec (new_lengths work.now count)) }
 {
     for i in 0..count {
-        put_string(out, at + 5 * i, string_length(work, i));
+        put_string(out, at + STRING_SIZE * i, string_length(work, i));
     }
 }
 
@@ -84,7 +83,7 @@ fn lay_out(out: &mut [u8], work: &[u32], at: usize, n: usize, count: usize)
     requires count_in_bounds { (at + 1 + n + 5 * count ≤ length out.old) × (count ≤ max_new_strings) }
     ensures { out.new ≡ overwrite out.old at (2 ∷ (records_bytes string_codec (new_lengths work.now count) ++ take n (drop (at + 1) out.old))) }
 {
-    moves::move_up(out, at + 1, n, 5 * count);
+    moves::move_up(out, at + 1, n, STRING_SIZE * count);
     wire::put_u8(out, at, 2);
     put_lengths(out, at + 1, work, count);
 }
@@ -106,7 +105,7 @@ fn strings_fit(below: u32, count: usize, left: usize) -> bool
     requires { (below ≤ max_pool) × (count ≤ max_new_strings) }
     ensures { result ≡ leb (below + count) max_pool && leb (5 * count) left }
 {
-    below as usize + count <= MAX_POOL && 5 * count <= left
+    below as usize + count <= MAX_POOL && STRING_SIZE * count <= left
 }
 
 // ---- the walk. Its buffers are written, and so lent one by one: what is asked of their lengths is said at each function, here and below.
@@ -122,7 +121,7 @@ fn plan_of(o: Totals, at: usize, contents: u32) -> graft::Plan
         contents: o.contents,
         segments: o.segments,
         contents_at: at + 1,
-        segments_at: at + 1 + 10 * (contents as usize),
+        segments_at: at + 1 + CONTENT_SIZE * (contents as usize),
     }
 }
 
@@ -134,9 +133,9 @@ fn index_words(source: &Book, work: &mut [u32])
 {
     strings::index_strings(
         source.tape,
-        source.store,
+        &source.store,
         source.bytes.len(),
-        &mut work[15360..],
+        &mut work[INDEX_AT..],
     );
 }
 
@@ -162,7 +161,7 @@ fn walk(
     let w = Walk {
         tape: source.tape,
         bytes: source.bytes,
-        st: source.store,
+        st: &source.store,
         pairs,
         plan,
     };
@@ -200,7 +199,7 @@ pub fn graft_layer(
     ensures { LayerTold out.old strs.old out.new strs.new to.at to.base to.below result
         (grafted_into source.now.tape.now source.now.bytes.now to.below) }
 {
-    let sizes = sizes::reading_sizes(source.tape, *source.store, source.places, room_left(to))?;
+    let sizes = sizes::reading_sizes(source, room_left(to))?;
     let grafting = Grafting { source, to, sizes };
     grafting.graft_sized(out, work, strs)
 }

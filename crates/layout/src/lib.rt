@@ -1,16 +1,19 @@
-// Number 1 whole, document 01 section 4: `layout` gives the places of a tape's records where `parse` finds a book, and
-// none where it finds none. The frame is `places_of`'s; here every record is asked for its shape where it stands: contents and
-// segments layer by layer, by one walk over the layers, then nodes, pairs and diagnostics (containers have no shape). No shape
-// depends on the byte buffer. specs/Shaped.antt says so, and that no tape is refused that is a book.
+// Number 1, document 01 section 4, of a tape whose frame holds: every record is asked for its shape where it stands, contents and segments layer by
+// layer, then nodes, pairs and diagnostics (containers have no shape). The frame is `places_of`'s. No shape depends on the byte buffer.
+// specs/Shaped.antt says so, and that where the shapes are a book's, `parse` finds that book, and else none.
 #![tactic(auto)]
 
 ghost use Rattle.std.specs.Prelude.{◌≡◌};
-ghost use Rattle.model.specs.Tape.{places};
-ghost use Rattle.layout.specs.Shaped.{runs_shape, layers_shape, lists_shape, layout_of, RunsFit, LayersFit, ListsFit};
+ghost use Rattle.places.specs.Walked.{RunsFit, PlacesFit, all_layers};
+ghost use Rattle.layout.specs.Shaped.{runs_shape, lists_shape, tape_shape};
+
+use numbers::HEAD_SIZE;
+use places::{LayerRuns, Places};
+use store::Layers;
 
 // Section 4. The shapes of a layer's contents and segments.
 #[tactic(auto, unfolding(crate::specs::Shaped::runs_shape))]
-pub fn layer_shaped(tape: &[u8], l: places::LayerRuns) -> bool
+fn layer_shaped(tape: &[u8], l: LayerRuns) -> bool
     requires { RunsFit tape.now l }
     ensures { result ≡ runs_shape tape.now l }
 {
@@ -18,16 +21,14 @@ pub fn layer_shaped(tape: &[u8], l: places::LayerRuns) -> bool
         && records::all_shaped::<records::Segment>(tape, l.segments.at, l.segments.count)
 }
 
-// Section 4. The shapes of every layer. Here and in four crates more the layers are walked by where each says that the next begins: each walk's
-// invariant names that place, and an iterator of layers would have to hand it on.
-pub fn layers_shaped(tape: &[u8], layers: usize) -> bool
-    requires { LayersFit tape.now layers }
-    ensures { result ≡ layers_shape tape.now (places tape.now).layers }
+// Section 4. The shapes of every layer. Here and in `texts` a layer is found where the one before says that it begins, for a tape that has no store.
+fn layers_shaped(layers: &Layers) -> bool
+    ensures { result ≡ all_layers (runs_shape layers.now.tape.now) layers.now.tape.now }
 {
-    let mut at = 9;
-    for _layer in 0..layers {
-        let l = places::next_layer(tape, at);
-        if !layer_shaped(tape, l) {
+    let mut at = HEAD_SIZE;
+    for k in 0..layers.count {
+        let l = layers.runs(k, at);
+        if !layer_shaped(layers.tape, l) {
             return false;
         }
         at = l.end;
@@ -37,8 +38,8 @@ pub fn layers_shaped(tape: &[u8], layers: usize) -> bool
 
 // Section 4. The shapes of nodes, pairs and diagnostics.
 #[tactic(auto, unfolding(crate::specs::Shaped::lists_shape))]
-pub fn lists_shaped(tape: &[u8], p: places::Places) -> bool
-    requires { ListsFit tape.now p }
+fn lists_shaped(tape: &[u8], p: Places) -> bool
+    requires { PlacesFit tape.now p }
     ensures { result ≡ lists_shape tape.now p }
 {
     records::all_shaped::<records::SourceNode>(tape, p.nodes.at, p.nodes.count)
@@ -46,14 +47,11 @@ pub fn lists_shaped(tape: &[u8], p: places::Places) -> bool
         && records::all_shaped::<records::Diagnostic>(tape, p.diagnostics.at, p.diagnostics.count)
 }
 
-// Number 1: the places of a book's records, if tape and bytes are a book.
-pub fn layout(tape: &[u8], bytes: &[u8]) -> Option<places::Places>
-    ensures { result ≡ layout_of tape.now bytes.now }
+// Number 1: have the records of a tape with these places and layers the shapes of a book's?
+#[tactic(auto, unfolding(crate::specs::Shaped::tape_shape))]
+pub fn shaped(layers: &Layers, p: Places) -> bool
+    requires { PlacesFit layers.now.tape.now p }
+    ensures { result ≡ tape_shape layers.now.tape.now p }
 {
-    let p = places::places_of(tape, bytes)?;
-    if layers_shaped(tape, p.layers) && lists_shaped(tape, p) {
-        Some(p)
-    } else {
-        None
-    }
+    layers_shaped(layers) && lists_shaped(layers.tape, p)
 }

@@ -9,6 +9,8 @@ ghost use Rattle.model.specs.Tape.{record_at, records_at, segment_codec};
 ghost use Rattle.level_blocks.specs.Level.{below};
 ghost use Rattle.level_blocks.specs.Blocks.{Skips, Risen, Kept, Greatest};
 
+use numbers::{MAX_POOL, SEGMENT_SIZE};
+
 pub fn level_below(tape: &[u8], at: usize, level: u8) -> bool
     requires { at + 37 ≤ length tape.now }
     ensures { result ≡ below level (record_at segment_codec tape.now at) }
@@ -21,7 +23,7 @@ pub fn levels_below(tape: &[u8], at: usize, count: usize, level: u8) -> bool
     requires { at + 37 * count ≤ length tape.now }
     ensures { result ≡ all (below level) (records_at segment_codec tape.now at count) }
 {
-    (0..count).all(|i| level_below(tape, at + 37 * i, level))
+    (0..count).all(|i| level_below(tape, at + SEGMENT_SIZE * i, level))
 }
 
 // Section 4. A Node's own level is 1..32, by the model's two comparisons; `contains` of a range would be the same two.
@@ -40,7 +42,7 @@ pub fn known_end(table: &[u8], i: usize, level: u8) -> usize
     if 254 < level {
         return i;
     }
-    if 1048575 < i {
+    if MAX_POOL < i {
         return i;
     }
     let one = i / 16;

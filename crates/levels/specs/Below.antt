@@ -10,8 +10,8 @@ use Rattle.model.specs.Limits.{max_level}
 use Rattle.model.specs.Types.{Body, Content, Segment}
 use Rattle.model.specs.WellFormed.{word_of}
 use Rattle.model.specs.Tape.{Field, Field.str, Field.opt_str, Field.content_range, Field.seg_range, fields_of, record_at, records_at, operands_at, content_codec, segment_codec}
-use Rattle.laws.specs.Lists.{both}
-use Rattle.wire.specs.Loops.{all_up_to, Passed, all_passed, all_failed, by_bool}
+use Rattle.facts.specs.Truth.{both, by_bool}
+use Rattle.wire.specs.Loops.{all_up_to, Passed, all_passed, all_failed}
 use Rattle.records.specs.Values.{body_at, segment_body}
 use Rattle.records.specs.Uses.{word_use, uses_of, use_among, use_number}
 use Rattle.records.specs.declared.Use.{Use}

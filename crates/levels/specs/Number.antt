@@ -1,9 +1,9 @@
 -- Where number 4 holds, what the code computes for the store of the tape is the model's number 5.
-use Rattle.std.specs.Prelude.{◌≡◌, ℕ, zero, suc, ◌+◌, Bool, ◌&&◌, drop, eqb}
+use Rattle.std.specs.Prelude.{◌≡◌, ℕ, ◌+◌, Bool, ◌&&◌, drop, eqb}
 use Rattle.std.proofs.Math.Path.{refl, sym, ap}
 use Rattle.std.proofs.Common.{ap₂, ◌∙◌}
-use Rattle.std.proofs.Math.Bool.{true, cond, and_assoc}
-use mathlib.Core.List.{List, [], ◌∷◌, ◌++◌, map, flatten}
+use Rattle.std.proofs.Math.Bool.{true, cond}
+use mathlib.Core.List.{List, [], ◌∷◌, map, flatten}
 use Rattle.std.proofs.Math.ListN.{take}
 use Rattle.std.proofs.Math.Dec.{leb, ltb}
 use Rattle.model.specs.Lists.{all, sum}
@@ -14,45 +14,29 @@ use Rattle.model.specs.Store.{store_of, resolve_content_range, resolve_seg_range
 use Rattle.model.specs.WellFormed.{word_of, content_segments, field_segments, level_ok, levels_ok}
 use Rattle.model.specs.Tape.{Field, Field.str, Field.opt_str, Field.content_range, Field.seg_range, fields_of, records_at, content_codec, segment_codec}
 use Rattle.model.specs.Tape.{LayerPlaces, places, string_lengths, layer_at, layers_at, book_at}
-use Rattle.laws.specs.Lists.{both}
-use Rattle.wire.specs.Loops.{by_bool}
+use Rattle.facts.specs.Truth.{both, by_bool}
+use Rattle.facts.specs.Keep.{all_append_is, all_take, all_drop, all_map}
+use Rattle.places.specs.Found.{layer_runs}
+use Rattle.places.specs.Walked.{all_layers}
 use Rattle.store.specs.Stored.{store_at}
 use Rattle.store.specs.Standing.{content_place, content_range_lem, segment_range}
 use Rattle.store.specs.declared.Store.{Store}
 use Rattle.ids.specs.Tests.{contents_in, segments_in, field_in, body_in, content_in, segment_in}
-use Rattle.ids.specs.Whole.{runs_in, layer_in, layers_in, ids_in}
+use Rattle.ids.specs.Whole.{runs_in, layers_in, ids_in}
 use Rattle.level_blocks.specs.Level.{below}
 use Rattle.levels.specs.Below.{segments_below, content_below, contents_below, field_below, body_below, level_in}
-use Rattle.levels.specs.Whole.{run_levels, layer_levels, levels_in}
+use Rattle.levels.specs.Whole.{run_levels, levels_in}
 
 -- ---- lists
-
-all_append : {A : Type 0} (p : A → Bool) (xs ys : List A) → all p (xs ++ ys) ≡ (all p xs && all p ys)
-all_append p [] ys = refl
-all_append p (x ∷ xs) ys = rw (all_append p xs ys) (sym (and_assoc (p x) (all p xs) (all p ys)))
 
 all_joined : {A B : Type 0} (p : B → Bool) (f : A → List B) (xs : List A) → all p (flatten (map f xs)) ≡ all (λ (x : A). all p (f x)) xs
 unfolding flatten
 all_joined p f [] = refl
-all_joined p f (x ∷ xs) = all_append p (f x) (flatten (map f xs)) ∙ ap (λ (b : Bool). all p (f x) && b) (all_joined p f xs)
+all_joined p f (x ∷ xs) = all_append_is p (f x) (flatten (map f xs)) ∙ ap (λ (b : Bool). all p (f x) && b) (all_joined p f xs)
 
 all_agree : {A : Type 0} (q p r : A → Bool) (xs : List A) → all q xs ≡ true → ((x : A) → q x ≡ true → p x ≡ r x) → all p xs ≡ all r xs
 all_agree q p r [] h e = refl
 all_agree q p r (x ∷ xs) h e = let b = both (q x) (all q xs) h in ap₂ (λ (u v : Bool). u && v) (e x b.0) (all_agree q p r xs b.1 e)
-
-all_follow : {A : Type 0} (q p : A → Bool) (xs : List A) → all q xs ≡ true → ((x : A) → q x ≡ true → p x ≡ true) → all p xs ≡ true
-all_follow q p [] h e = refl
-all_follow q p (x ∷ xs) h e = let b = both (q x) (all q xs) h in rw (e x b.0) (all_follow q p xs b.1 e)
-
-all_take : {A : Type 0} (p : A → Bool) (n : ℕ) (xs : List A) → all p xs ≡ true → all p (take n xs) ≡ true
-all_take p zero xs h = refl
-all_take p (suc n) [] h = refl
-all_take p (suc n) (x ∷ xs) h = let b = both (p x) (all p xs) h in rw b.0 (all_take p n xs b.1)
-
-all_drop : {A : Type 0} (p : A → Bool) (n : ℕ) (xs : List A) → all p xs ≡ true → all p (drop n xs) ≡ true
-all_drop p zero xs h = h
-all_drop p (suc n) [] h = refl
-all_drop p (suc n) (x ∷ xs) h = all_drop p n xs (both (p x) (all p xs) h).1
 
 -- ---- the pools, layer by layer
 
@@ -61,7 +45,7 @@ segments_flat : (t : List ℕ) (p : Segment → Bool) (ls : List LayerPlaces) (d
 unfolding store_of layers_at layer_at flatten
 segments_flat t p [] d = refl
 segments_flat t p (l ∷ ls) d =
-    all_append p (records_at segment_codec t l.segments_at l.segment_count) (store_of (layers_at t ls (drop (sum (string_lengths t l)) d))).segments
+    all_append_is p (records_at segment_codec t l.segments_at l.segment_count) (store_of (layers_at t ls (drop (sum (string_lengths t l)) d))).segments
     ∙ ap (λ (b : Bool). all p (records_at segment_codec t l.segments_at l.segment_count) && b) (segments_flat t p ls (drop (sum (string_lengths t l)) d))
 
 contents_flat : (t : List ℕ) (p : Content → Bool) (ls : List LayerPlaces) (d : List ℕ)
@@ -69,12 +53,12 @@ contents_flat : (t : List ℕ) (p : Content → Bool) (ls : List LayerPlaces) (d
 unfolding store_of layers_at layer_at flatten
 contents_flat t p [] d = refl
 contents_flat t p (l ∷ ls) d =
-    all_append p (records_at content_codec t l.contents_at l.content_count) (store_of (layers_at t ls (drop (sum (string_lengths t l)) d))).contents
+    all_append_is p (records_at content_codec t l.contents_at l.content_count) (store_of (layers_at t ls (drop (sum (string_lengths t l)) d))).contents
     ∙ ap (λ (b : Bool). all p (records_at content_codec t l.contents_at l.content_count) && b) (contents_flat t p ls (drop (sum (string_lengths t l)) d))
 
-layer_parts : (t : List ℕ) (st : Store) (l : LayerPlaces) → layer_in t st l ≡ true
+layer_parts : (t : List ℕ) (st : Store) (l : LayerPlaces) → runs_in t st (layer_runs l) ≡ true
     → (all (content_in st) (records_at content_codec t l.contents_at l.content_count) ≡ true) × (all (segment_in st) (records_at segment_codec t l.segments_at l.segment_count) ≡ true)
-unfolding layer_in runs_in
+unfolding runs_in
 layer_parts t st l h = both (all (content_in st) (records_at content_codec t l.contents_at l.content_count)) (all (segment_in st) (records_at segment_codec t l.segments_at l.segment_count)) h
 
 -- ---- fields, contents, segments that number 4 lets pass
@@ -124,13 +108,13 @@ module _ (t : List ℕ) (st : Store) (e : st ≡ store_at t) (d : List ℕ) (poo
 
 walked_agrees : (t : List ℕ) (st : Store) → st ≡ store_at t → layers_in t st ≡ true → (d : List ℕ)
     → levels_in t st ≡ all (level_ok (store_of (layers_at t (places t).layers d))) (store_of (layers_at t (places t).layers d)).segments
-unfolding layers_in levels_in layer_levels run_levels
+unfolding layers_in all_layers run_levels
 walked_agrees t st e h d =
     let ls = (places t).layers in
     let s = store_of (layers_at t ls d) in
     let pool : all (content_in st) s.contents ≡ true =
-    contents_flat t (content_in st) ls d ∙ all_follow (layer_in t st) (λ (l : LayerPlaces). all (content_in st) (records_at content_codec t l.contents_at l.content_count)) ls h (λ l x. (layer_parts t st l x).0) in
-    all_agree (layer_in t st) (λ (l : LayerPlaces). all (level_in t st) (records_at segment_codec t l.segments_at l.segment_count))
+    contents_flat t (content_in st) ls d ∙ all_map (λ (l : LayerPlaces). runs_in t st (layer_runs l)) (λ (l : LayerPlaces). all (content_in st) (records_at content_codec t l.contents_at l.content_count)) (λ l x. (layer_parts t st l x).0) ls h in
+    all_agree (λ (l : LayerPlaces). runs_in t st (layer_runs l)) (λ (l : LayerPlaces). all (level_in t st) (records_at segment_codec t l.segments_at l.segment_count))
     (λ (l : LayerPlaces). all (level_ok s) (records_at segment_codec t l.segments_at l.segment_count)) ls h
     (λ l x. all_agree (segment_in st) (level_in t st) (level_ok s) (records_at segment_codec t l.segments_at l.segment_count) (layer_parts t st l x).1 (segment_agrees t st e d pool))
     ∙ sym (segments_flat t (level_ok s) ls d)

@@ -2,15 +2,17 @@
 use Rattle.std.specs.Prelude.{◌≡◌, refl, ℕ, ◌+◌, ◌*◌, ◌-◌, ◌/◌, ◌≤◌, ◌<◌, Bool, true, length, get_or, take, drop, set, ltb, eqb}
 use Rattle.std.proofs.Common.{sym, ◌∙◌, arith, length-set, get_or-take, get_or-drop, get_or-set_same, get_or-set_other, lt-ltb, ltb-true, ltb-false, eqb-true}
 use Rattle.std.proofs.Math.Path.{ap}
-use mathlib.Core.List.{List, [], ◌∷◌}
+use mathlib.Core.List.{List, []}
 use Rattle.std.proofs.lemmas.Bool.{eqb-false}
 use Rattle.model.specs.Lists.{all}
 use Rattle.model.specs.Bytes.{byte_at}
 use Rattle.model.specs.Types.{Content, Segment}
 use Rattle.model.specs.Store.{store_of, resolve_content_range, resolve_seg_range}
 use Rattle.model.specs.Tape.{Codec, record_size, record_at, records_at, content_codec, segment_codec, places, layers_at}
-use Rattle.laws.specs.Lists.{both, get_d_tabulate}
-use Rattle.wire.specs.Loops.{all_up_to, Passed, passed_more, all_passed, by_bool}
+use Rattle.facts.specs.Truth.{both, by_bool}
+use Rattle.facts.specs.Lists.{get_d_tabulate}
+use Rattle.facts.specs.Keep.{all_map}
+use Rattle.wire.specs.Loops.{all_up_to, Passed, passed_more, all_passed}
 use Rattle.levels.specs.Told.{Told}
 use Rattle.records.specs.Runs.{test_at}
 use Rattle.store.specs.Standing.{content_place, segment_place, content_at_lem, segment_at_lem, content_range_lem, segment_range, content_inside, segment_inside}
@@ -111,15 +113,11 @@ below_more : (m l : ℕ) (x : Segment) → m ≤ l → below m x ≡ true → be
 unfolding below
 below_more m l x h e = let y = ltb-true x.level m e in lt-ltb x.level l (omega (arith, y, h))
 
-all_follow : {A : Type 0} (q p : A → Bool) (xs : List A) → ((x : A) → q x ≡ true → p x ≡ true) → all q xs ≡ true → all p xs ≡ true
-all_follow q p [] e h = refl
-all_follow q p (x ∷ xs) e h = let b = both (q x) (all q xs) h in rw (e x b.0) (all_follow q p xs e b.1)
-
 content_more : (t : List ℕ) (st : Store) (m l : ℕ) (x : Content) → m ≤ l → content_below t st m x ≡ true → content_below t st l x ≡ true
 unfolding content_below segments_below
 content_more t st m l x h e = by_bool (eqb x.tag 0) (λ z. rw z refl)
     (λ z. let b = both (segments_in st x.first x.second) (all (below m) (records_at segment_codec t (segment_place st x.first) x.second)) (rw z at e) in
-    rw (z, b.0) (all_follow (below m) (below l) (records_at segment_codec t (segment_place st x.first) x.second) (λ y. below_more m l y h) b.1))
+    rw (z, b.0) (all_map (below m) (below l) (λ y. below_more m l y h) (records_at segment_codec t (segment_place st x.first) x.second) b.1))
 
 -- ---- entries made
 

@@ -1,7 +1,7 @@
 -- What an answer tells: a 'yes' is sure, and where the tables are made a 'no' is as well.
 use Rattle.std.specs.Prelude.{◌≡◌, Bool, true, false, ◌&&◌}
 use Rattle.std.proofs.Common.{refl, sym, ◌∙◌, true≢false}
-use Rattle.laws.specs.Lists.{both}
+use Rattle.facts.specs.Truth.{both}
 
 pub record Told (tabled r x : Bool) : Type 0 where
   pub sure : r ≡ true → x ≡ true

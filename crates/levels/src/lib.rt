@@ -12,7 +12,7 @@
 ghost use Rattle.std.specs.Prelude.{◌≡◌, ℕ, Bool, true, is_some, ◌&&◌, ◌+◌, ◌*◌, ◌^◌, ◌≤◌, ◌<◌, length};
 ghost use Rattle.std.specs.Option.{ForSome};
 ghost use Rattle.model.specs.Lists.{all};
-ghost use Rattle.model.specs.Tape.{record_at, records_at, content_codec, segment_codec, places};
+ghost use Rattle.model.specs.Tape.{record_at, records_at, content_codec, segment_codec};
 ghost use Rattle.records.specs.Values.{body_at};
 ghost use Rattle.records.specs.Runs.{test_at};
 ghost use Rattle.records.specs.Uses.{use_number};
@@ -22,10 +22,12 @@ ghost use Rattle.level_blocks.specs.Blocks.{Risen};
 ghost use Rattle.store.specs.Stored.{OfTape};
 ghost use Rattle.levels.specs.Below.{segments_below, content_below, contents_below, used_below, body_below, level_in};
 ghost use Rattle.levels.specs.Table.{segment_test, content_test, Said, Tests, Filled, Bound, Bounds, Block, Made};
-ghost use Rattle.wire.specs.Loops.{all_up_to};
+ghost use Rattle.wire.specs.Loops.{all_up_to, Passed};
+ghost use Rattle.places.specs.Walked.{layer_test};
 ghost use Rattle.levels.specs.Told.{Told};
-ghost use Rattle.levels.specs.Whole.{levels_in, Walked};
+ghost use Rattle.levels.specs.Whole.{run_levels, levels_in};
 
+use numbers::{CONTENT_SIZE, SEGMENT_SIZE};
 use places::Run;
 use records::{NODE, Use};
 use store::Store;
@@ -33,17 +35,15 @@ use store::Store;
 // The longest range that is read item by item where there is no table.
 const MOST_READ: u32 = 16;
 
-// A tape and its store, both lent, how many layers it has (by a fact of its own, which each walk would else derive from `of_tape`), and two tables
-// as far as they are made: of the levels that its segments are below, and of those that the segments which its contents name are below.
+// A tape and its store, both lent, and two tables as far as they are made: of the levels that its segments are below, and of those that the segments
+// which its contents name are below.
 #[derive(Clone, Copy)]
 struct Book<'a, 't, 'h> {
     tape: &'a [u8],
     st: &'a Store,
-    layers: usize,
     tops: Option<&'t [u8]>,
     heights: Option<&'h [u8]>,
     ghost of_tape: { OfTape tape.now st.now },
-    ghost counted: { layers ≡ length (places tape.now).layers },
     ghost tops_made: { ForSome tops (λ w. Made (segment_test tape.now st.now) st.now.totals.segments w.now) },
     ghost heights_made: { ForSome heights (λ w. Made (content_test tape.now st.now) st.now.totals.contents w.now) },
 }
@@ -94,7 +94,7 @@ impl Book<'_, '_, '_> {
                 |k| -> bool
                     requires { at + 37 * k + 37 ≤ length self.now.tape.now }
                     ensures { result ≡ below level (record_at segment_codec self.entry.now.tape.now (at + 37 * k)) }
-                { level_blocks::level_below(self.tape, at + 37 * k, level) },
+                { level_blocks::level_below(self.tape, at + SEGMENT_SIZE * k, level) },
             );
         }
         if MOST_READ < len {
@@ -121,7 +121,7 @@ impl Book<'_, '_, '_> {
         ensures { Told (is_some self.now.tops) result (all (content_below self.now.tape.now self.now.st.now level) (records_at content_codec self.now.tape.now run.at run.count)) }
     {
         for i in 0..run.count {
-            if !self.content_below(run.at + 10 * i, level) {
+            if !self.content_below(run.at + CONTENT_SIZE * i, level) {
                 return false;
             }
         }
@@ -148,7 +148,7 @@ impl Book<'_, '_, '_> {
                 |k| -> bool
                     requires { (at + 10 * k + 10 ≤ length self.now.tape.now) × (at + 10 * k < 2 ^ 63) }
                     ensures { Told (is_some self.entry.now.tops) result (content_below self.entry.now.tape.now self.entry.now.st.now level (record_at content_codec self.entry.now.tape.now (at + 10 * k))) }
-                { self.content_below(at + 10 * k, level) },
+                { self.content_below(at + CONTENT_SIZE * k, level) },
             );
         }
         if MOST_READ < len {
@@ -222,25 +222,22 @@ impl Book<'_, '_, '_> {
         ensures { Told (is_some self.now.tops && is_some self.now.heights) result (all (level_in self.now.tape.now self.now.st.now) (records_at segment_codec self.now.tape.now run.at run.count)) }
     {
         for i in 0..run.count {
-            if !self.level_ok(run.at + 37 * i) {
+            if !self.level_ok(run.at + SEGMENT_SIZE * i) {
                 return false;
             }
         }
         true
     }
 
-    // The layers from the one that begins at `from` on; those before it were walked.
-    fn layers_ok(&self, first: usize, from: usize) -> bool
-        requires walked { (first ≤ self.now.layers) × Walked self.now.tape.now self.now.st.now first from }
+    // The layers from `first` on; those before it have passed.
+    fn layers_ok(&self, first: usize) -> bool
+        requires before { (first ≤ self.now.st.now.layers) × Passed (layer_test (run_levels self.now.tape.now self.now.st.now) self.now.tape.now) first }
         ensures { Told (is_some self.now.tops && is_some self.now.heights) result (levels_in self.now.tape.now self.now.st.now) }
     {
-        let mut at = from;
-        for _layer in first..self.layers {
-            let l = places::next_layer(self.tape, at);
-            if !self.run_levels_ok(l.segments) {
+        for k in first..self.st.layers {
+            if !self.run_levels_ok(self.st.layer_runs(k).segments) {
                 return false;
             }
-            at = l.end;
         }
         true
     }
@@ -347,11 +344,10 @@ impl Book<'_, '_, '_> {
         let tabled = Book {
             tape: self.tape,
             st: self.st,
-            layers: self.layers,
             tops: self.tops,
             heights: Some(heights),
         };
-        tabled.layers_ok(0, 9)
+        tabled.layers_ok(0)
     }
 
     // By the table of the segments, and then by one of the contents that it serves to make.
@@ -362,7 +358,6 @@ impl Book<'_, '_, '_> {
         let by_tops = Book {
             tape: self.tape,
             st: self.st,
-            layers: self.layers,
             tops: Some(tops),
             heights: None,
         };
@@ -385,29 +380,26 @@ impl Book<'_, '_, '_> {
 
 // Number 5, whole. The first layer is asked by itself: two calls of `levels_tabled` are to keep LLVM from making it part of this function, so that a
 // book that needs no tables needs no room for them; no proof hangs on it. In a book without segments there is nothing to ask.
-pub fn levels_ok(tape: &[u8], st: Store, layers: usize) -> bool
-    requires of_tape { OfTape tape.now st }
-    requires layers_value { layers ≡ length (places tape.now).layers }
-    ensures { result ≡ levels_in tape.now st }
+pub fn levels_ok(tape: &[u8], st: &Store) -> bool
+    requires of_tape { OfTape tape.now st.now }
+    ensures { result ≡ levels_in tape.now st.now }
 {
     if st.totals.segments == 0 {
         return true;
     }
-    if layers == 0 {
+    if st.layers == 0 {
         return true;
     }
     let book = Book {
         tape,
-        st: &st,
-        layers,
+        st,
         tops: None,
         heights: None,
     };
-    let l = places::next_layer(tape, 9);
-    if !book.run_levels_ok(l.segments) {
+    if !book.run_levels_ok(st.layer_runs(0).segments) {
         return book.levels_tabled();
     }
-    if book.layers_ok(1, l.end) {
+    if book.layers_ok(1) {
         return true;
     }
     book.levels_tabled()

@@ -2,8 +2,8 @@
 use Rattle.std.specs.Prelude.{◌≡◌, refl, ℕ, zero, suc, ◌+◌, ◌-◌, ◌/◌, ◌%◌, ◌^◌, ◌≤◌, ◌<◌, List, [], ◌∷◌, ◌++◌, leb}
 use Rattle.std.proofs.Common.{sym, ap, ◌∙◌, arith, pow-suc, append_assoc, append-nil, lt-ltb, le-ltb, leb-true, leb-false}
 use Rattle.model.specs.Runs.{digits_before, decimal}
-use Rattle.wire.specs.Loops.{by_bool}
 use Rattle.io.specs.Digits.{last_digits, hex_digit_ascii, IsDigitCount}
+use Rattle.facts.specs.Truth.{by_bool}
 
 glyph_is : (x : ℕ) → hex_digit_ascii (x % 10) ≡ 48 + x % 10
 glyph_is x = rw (lt-ltb (x % 10) 10 (omega arith)) refl

@@ -5,8 +5,8 @@ use Rattle.std.proofs.Common.{sym, ap, ◌∙◌, add-one, take-suc}
 use mathlib.Core.List.{List, [], ◌∷◌, ◌++◌, map, flatten}
 use borrow.Author.Tests.{ne_eqb}
 use Rattle.model.specs.Lists.{ascii}
-use Rattle.laws.specs.Lists.{map_append, flatten_snoc}
 use Rattle.io.specs.Digits.{hex_digit_ascii}
+use Rattle.facts.specs.Lists.{map_append, flatten_snoc}
 
 -- A byte that stands for itself: not a control character. UTF-8 is left as it is.
 unfoldable pub is_plain : ℕ → Bool

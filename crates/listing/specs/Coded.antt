@@ -5,10 +5,10 @@ use Rattle.std.proofs.Math.Option.{Option}
 use Rattle.std.proofs.lemmas.List.{length-map}
 use mathlib.Core.List.{map}
 use Rattle.model.specs.Lists.{all}
-use Rattle.laws.specs.Lists.{both}
+use Rattle.facts.specs.Truth.{both, by_bool}
+use Rattle.facts.specs.Keep.{all_get}
 use Rattle.model.specs.Offset.{Span}
 use Rattle.model.specs.Bytes.{byte_at}
-use Rattle.wire.specs.Loops.{by_bool}
 use Rattle.listing.specs.declared.tables.Part.{Part as CodePart}
 use Rattle.listing.specs.declared.tables.Part.TheVariants.{Before, Region, Behind, Whole}
 use Rattle.listing.specs.declared.tables.Shows.{Shows as CodeShows}
@@ -81,22 +81,17 @@ same_default [] i a b h = absurd (omega arith)
 same_default (x ∷ xs) zero a b h = refl
 same_default (x ∷ xs) (suc i) a b h = same_default xs i a b (omega arith)
 
-get_d_all : {A : Type 0} (p : A → Bool) (l : List A) (i : ℕ) (default : A) → all p l ≡ true → p default ≡ true → p (get_or l i default) ≡ true
-get_d_all p [] i default e z = z
-get_d_all p (x ∷ xs) zero default e z = (both (p x) (all p xs) e).0
-get_d_all p (x ∷ xs) (suc i) default e z = get_d_all p xs i default (both (p x) (all p xs) e).1 z
-
 rows_fit : (r : ℕ) → row_fits (get_or rows r []) ≡ true
 unfolding rows row_fits field_fits
-rows_fit r = get_d_all row_fits rows r [] refl refl
+rows_fit r = all_get row_fits rows r [] refl refl
 
 pub size_some : (i : ℕ) → 1 ≤ get_or sizes i 1
 unfolding sizes
-size_some i = leb-true 1 (get_or sizes i 1) (get_d_all (λ (n : ℕ). leb 1 n) sizes i 1 refl refl)
+size_some i = leb-true 1 (get_or sizes i 1) (all_get (λ (n : ℕ). leb 1 n) sizes i 1 refl refl)
 
 pub size_small : (i : ℕ) → get_or sizes i 0 < 256
 unfolding sizes
-size_small i = ltb-true (get_or sizes i 0) 256 (get_d_all (λ (n : ℕ). ltb n 256) sizes i 0 refl refl)
+size_small i = ltb-true (get_or sizes i 0) 256 (all_get (λ (n : ℕ). ltb n 256) sizes i 0 refl refl)
 
 pub size_read : (i : ℕ) → i ≤ 10 → get_or sizes i 0 ≡ get_or sizes i 1
 unfolding sizes
@@ -104,7 +99,7 @@ size_read i h = same_default sizes i 0 1 (omega (arith, h))
 
 pub label_short : (i : ℕ) → length (get_or labels i []) ≤ 24
 unfolding labels
-label_short i = leb-true (length (get_or labels i [])) 24 (get_d_all (λ (l : List ℕ). leb (length l) 24) labels i [] refl refl)
+label_short i = leb-true (length (get_or labels i [])) 24 (all_get (λ (l : List ℕ). leb (length l) 24) labels i [] refl refl)
 
 pub row_few_fields : (r : ℕ) → length (get_or rows r []) ≤ 15
 unfolding row_fits
@@ -129,8 +124,8 @@ word_labels_fit = refl
 
 word_label_short : (kind i : ℕ) → length (get_or (get_or word_labels kind []) i []) ≤ 24
 word_label_short kind i =
-    let row = get_d_all (all (λ (l : List ℕ). leb (length l) 24)) word_labels kind [] word_labels_fit refl in
-    leb-true (length (get_or (get_or word_labels kind []) i [])) 24 (get_d_all (λ (l : List ℕ). leb (length l) 24) (get_or word_labels kind []) i [] row refl)
+    let row = all_get (all (λ (l : List ℕ). leb (length l) 24)) word_labels kind [] word_labels_fit refl in
+    leb-true (length (get_or (get_or word_labels kind []) i [])) 24 (all_get (λ (l : List ℕ). leb (length l) 24) (get_or word_labels kind []) i [] row refl)
 
 word_item_short : (kind use' i w : ℕ) → length (word_item kind use' i w).label ≤ 24
 unfolding word_item

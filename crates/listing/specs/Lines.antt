@@ -3,8 +3,8 @@ use Rattle.std.specs.Prelude.{◌≡◌, ℕ, ◌+◌, ◌<◌, Bool, length, ge
 use Rattle.std.proofs.Common.{sym, ap, ◌∙◌, arith, add-one, take-suc}
 use mathlib.Core.List.{List, [], ◌∷◌, ◌++◌, map, flatten}
 use borrow.Author.Tests.{ltb-false}
-use Rattle.laws.specs.Lists.{map_append, flatten_snoc}
-use Rattle.wire.specs.Loops.{by_bool}
+use Rattle.facts.specs.Truth.{by_bool}
+use Rattle.facts.specs.Lists.{map_append, flatten_snoc}
 use Rattle.listing.specs.Listing.{row_for}
 
 pub row_few : (command second : ℕ) (edit : Bool) → row_for command edit second < 14

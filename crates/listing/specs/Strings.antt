@@ -1,4 +1,4 @@
--- A book that passed 1 to 7 and its store: what the code that prints it asks, and the string of an id.
+-- The string of an id, as the code that prints a book finds it.
 use Rattle.std.specs.Prelude.{◌≡◌, refl, ℕ, ◌+◌, ◌-◌, ◌≤◌, ◌<◌, List, [], ◌++◌, length, get_or, drop}
 use Rattle.std.proofs.Common.{sym, ap, ◌∙◌, arith, append_assoc, length-take, length-drop}
 use Rattle.std.proofs.Math.Option.{Option, none, some}
@@ -6,20 +6,15 @@ use Rattle.model.specs.Lists.{ascii}
 use Rattle.model.specs.Bytes.{word_at, part}
 use Rattle.model.specs.Tape.{places, book_at}
 use Rattle.model.specs.Lookup.{lookup_str}
-use Rattle.places.specs.Found.{found}
+use Rattle.places.specs.declared.Places.{Places}
 use Rattle.store.specs.declared.Store.{Store}
-use Rattle.store.specs.Stored.{store_at}
-use Rattle.strings.specs.Starts.{lengths_in, start_in, Readable, strings_count}
-use Rattle.tape.specs.Accepted.{Accepted, Passed}
-use Rattle.lookup.specs.Strings.{asked_readable, lookup_in, lookup_out}
+use Rattle.store.specs.Standing.{string_pool, length_pools}
+use Rattle.strings.specs.Starts.{lengths_in, start_in}
+use Rattle.tape.specs.Held.{Held}
+use Rattle.lookup.specs.Strings.{lookup_in, lookup_out}
 use Rattle.lines.specs.Text.{numbered}
 use Rattle.lines.specs.Quoted.{quoted}
 use Rattle.listing.specs.Listing.{string_bytes}
-
-pub record Printable (t d : List ℕ) (st : Store) : Type 0 where
-  pub passed : Accepted t d
-  pub stored : st ≡ store_at t
-  pub short : length d ≤ 65536
 
 part_short : (d : List ℕ) (p n : ℕ) → length (part d p n) ≤ length d
 part_short d p n = let a = length-take n (drop p d) in let b = length-drop p d in omega (arith, a, b)
@@ -27,24 +22,21 @@ part_short d p n = let a = length-take n (drop p d) in let b = length-drop p d i
 pub text_short : (d : List ℕ) (p n : ℕ) {x : List ℕ} → length d ≤ 65536 → x ≡ part d p n → length x ≤ 65536
 text_short d p n h e = let a = part_short d p n in let b = ap length e in omega (arith, a, b, h)
 
-module _ {t d : List ℕ} {st : Store} (f : Printable t d st) where
-  pub printable_readable : Readable t st (length d)
-  printable_readable =
-      let a : Passed t d (found t) = record { whole = f.passed; is = refl } in
-      asked_readable a f.stored (omega (arith, f.short))
+module _ {t d : List ℕ} {p : Places} {st : Store} (h : Held t d p st) where
+  count : st.totals.strings ≡ length (lengths_in t)
+  count = (string_pool t st h.stored).all ∙ sym (length_pools t (places t).layers)
 
-  pub string_there : (id : ℕ) → id < st.totals.strings → {a b start n : ℕ} → a ≡ word_at t 1 → b ≡ word_at t 5 → start ≡ start_in t id → n ≡ get_or (lengths_in t) id 0
-      → {x : List ℕ} → x ≡ part d (a + b + start) (a + b + start + n - (a + b + start))
+  pub string_there : length d ≤ 65536 → (id : ℕ) → id < st.totals.strings → {a b start n : ℕ} → a ≡ word_at t 1 → b ≡ word_at t 5 → start ≡ start_in t id
+      → n ≡ get_or (lengths_in t) id 0 → {x : List ℕ} → x ≡ part d (a + b + start) (a + b + start + n - (a + b + start))
       → (length x ≤ 65536) × (lookup_str (book_at t (places t) d) id ≡ some x)
-  string_there id h {a} {b} {start} {n} p q r s {x} e =
+  string_there short id m {a} {b} {start} {n} p q r s {x} e =
       let z : a + b + start + n - (a + b + start) ≡ n = omega arith in (
-        text_short d (a + b + start) (a + b + start + n - (a + b + start)) f.short e,
-        lookup_in t d f.passed.framing id (omega (arith, h, strings_count printable_readable.store))
-            ∙ ap {B = Option (List ℕ)} some (sym (e ∙ rw (z, p, q, r, s) refl)),
+        text_short d (a + b + start) (a + b + start + n - (a + b + start)) short e,
+        lookup_in t d h.accepted.framing id (omega (arith, m, count)) ∙ ap {B = Option (List ℕ)} some (sym (e ∙ rw (z, p, q, r, s) refl)),
       )
 
   pub string_none : (id : ℕ) → st.totals.strings ≤ id → lookup_str (book_at t (places t) d) id ≡ none
-  string_none id h = lookup_out t d f.passed.framing id (omega (arith, h, strings_count printable_readable.store))
+  string_none id m = lookup_out t d h.accepted.framing id (omega (arith, m, count))
 
 -- ---- the returns of `put_string`
 

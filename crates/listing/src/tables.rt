@@ -4,6 +4,10 @@ use Shows::{
     BodyWord, Byte, LabelOnly, Name, Ordinal, OwnString, RegionEnd, RegionStart, StringId,
     TextPart, Word,
 };
+use numbers::{
+    CONTAINER_SIZE, CONTENT_SIZE, DIAGNOSTIC_SIZE, HEAD_SIZE, NODE_SIZE, PAIR_SIZE, SEGMENT_SIZE,
+    STRING_SIZE,
+};
 
 // A part of the text: before the region of the edit, of it, behind it; or all of it.
 #[derive(Clone, Copy)]
@@ -222,4 +226,16 @@ pub static WORD_LABELS: [[&[u8]; 6]; 16] = [
 ];
 
 // how many bytes a record of each command takes
-pub static SIZES: [usize; 11] = [1, 9, 1, 5, 10, 37, 49, 18, 13, 18, 1];
+pub static SIZES: [usize; 11] = [
+    1,
+    HEAD_SIZE,
+    1,
+    STRING_SIZE,
+    CONTENT_SIZE,
+    SEGMENT_SIZE,
+    NODE_SIZE,
+    PAIR_SIZE,
+    CONTAINER_SIZE,
+    DIAGNOSTIC_SIZE,
+    1,
+];

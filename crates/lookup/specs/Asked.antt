@@ -1,5 +1,5 @@
 -- What is asked of a book, 1 to 7 first: the answers of `diagnostics_allow_incremental` and `node_at_source`, and the laws by
--- which each entry goes from `checked_book` to its answer.
+-- which each entry goes from the opened book to its answer.
 use Rattle.std.specs.Prelude.{◌≡◌, ℕ, Bool, List, eqb, Option}
 use Rattle.std.proofs.Common.{refl, sym, ap, ◌∙◌, eqb-true}
 use Rattle.std.proofs.lemmas.Bool.{eqb-false}
@@ -8,13 +8,13 @@ use Rattle.model.specs.Refusal.{Checked, Checked.refused, Checked.accepted, ◌>
 use Rattle.model.specs.Tape.{records_at, places, book_at, node_codec, diagnostic_codec}
 use Rattle.model.specs.WellFormed.{check_book}
 use Rattle.model.specs.Lookup.{ask_book, diagnostics_allow_incremental, node_at_source}
-use Rattle.wire.specs.Loops.{by_bool}
+use Rattle.facts.specs.Truth.{by_bool}
 use Rattle.refusal.specs.Refusal.{checked_map}
 use Rattle.places.specs.declared.Places.{Places}
-use Rattle.places.specs.Found.{found}
-use Rattle.bounds.specs.Search.{InOrder, found_of}
-use Rattle.tape.specs.Accepted.{Accepted, Passed, refusal_of, accepted_book, accepted_places, accepted_order}
-use Rattle.tape.specs.Placed.{PlacesFit}
+use Rattle.bounds.specs.Search.{found_of}
+use Rattle.store.specs.declared.Store.{Store}
+use Rattle.tape.specs.Accepted.{Accepted, refusal_of, accepted_book}
+use Rattle.tape.specs.Held.{Held, held_nodes, held_diagnostics}
 
 -- ---- 1 to 7
 
@@ -41,29 +41,15 @@ ask_shown t d {B = B} show f g h =
 
 -- ---- the two entries
 
-module _ {t d : List ℕ} {p : Places} (a : Passed t d p) where
-  diagnostics_are : records_at diagnostic_codec t p.diagnostics.at p.diagnostics.count ≡ (book_at t (places t) d).diagnostics
-  unfolding found book_at
-  diagnostics_are = rw a.is refl
-
-  nodes_are : records_at node_codec t p.nodes.at p.nodes.count ≡ (book_at t (places t) d).source_nodes
-  unfolding found book_at
-  nodes_are = rw a.is refl
-
+module _ {t d : List ℕ} {p : Places} {st : Store} (a : Held t d p st) where
   pub allowed_said : {x : Bool} → x ≡ diagnostics_allow_incremental (records_at diagnostic_codec t p.diagnostics.at p.diagnostics.count)
       → accepted x ≡ ask_book t d (λ b. diagnostics_allow_incremental b.diagnostics)
   allowed_said e =
-      ap {B = Checked Bool} accepted (e ∙ ap diagnostics_allow_incremental diagnostics_are)
-      ∙ ask_accepted a.whole (λ (b : LexOutput). diagnostics_allow_incremental b.diagnostics)
-
-  pub asked_places : PlacesFit t p
-  asked_places = accepted_places a.whole a.is
-
-  pub asked_order : InOrder (records_at node_codec t p.nodes.at p.nodes.count)
-  asked_order = accepted_order a.whole a.is
+      ap {B = Checked Bool} accepted (e ∙ ap diagnostics_allow_incremental (held_diagnostics a))
+      ∙ ask_accepted a.accepted (λ (b : LexOutput). diagnostics_allow_incremental b.diagnostics)
 
   pub node_said : (o : ℕ) {x : Option ℕ} → x ≡ found_of (node_at_source (records_at node_codec t p.nodes.at p.nodes.count) o)
       → accepted x ≡ ask_book t d (λ b. found_of (node_at_source b.source_nodes o))
   node_said o e =
-      ap {B = Checked (Option ℕ)} accepted (e ∙ ap (λ ns. found_of (node_at_source ns o)) nodes_are)
-      ∙ ask_accepted a.whole (λ (b : LexOutput). found_of (node_at_source b.source_nodes o))
+      ap {B = Checked (Option ℕ)} accepted (e ∙ ap (λ ns. found_of (node_at_source ns o)) (held_nodes a))
+      ∙ ask_accepted a.accepted (λ (b : LexOutput). found_of (node_at_source b.source_nodes o))

@@ -1,5 +1,5 @@
 -- Where the records of a range stand in the tape, and that what stands there is the model's answer: contents and segments.
-use Rattle.std.specs.Prelude.{◌≡◌, ℕ, ◌+◌, ◌≤◌, Bool, true, false, List, drop, Option, Some, None}
+use Rattle.std.specs.Prelude.{◌≡◌, ℕ, ◌+◌, Bool, true, false, List, drop, Option, Some, None}
 use Rattle.std.proofs.Math.Path.{refl, ap}
 use Rattle.std.proofs.Common.{◌∙◌}
 use Rattle.std.proofs.Math.Bool.{cond}
@@ -10,15 +10,14 @@ use Rattle.model.specs.Bytes.{word_at}
 use Rattle.model.specs.Tape.{Codec, records_at, places, book_at, content_codec, segment_codec}
 use Rattle.model.specs.Store.{store_of, resolve_content_range, resolve_seg_range}
 use Rattle.model.specs.Lookup.{ask_book, lookup_contents, lookup_segments, contents_ok, segments_ok}
-use Rattle.wire.specs.Loops.{by_bool}
+use Rattle.facts.specs.Truth.{by_bool}
 use Rattle.refusal.specs.Refusal.{checked_map}
 use Rattle.places.specs.declared.Places.{Places}
 use Rattle.store.specs.declared.Store.{Store}
-use Rattle.store.specs.Stored.{StoreFits, store_at}
+use Rattle.store.specs.Stored.{store_at}
 use Rattle.store.specs.Pools.{range_in}
 use Rattle.store.specs.Standing.{content_place, segment_place, content_range_ok, segment_range_ok, content_range_lem, segment_range}
-use Rattle.tape.specs.Accepted.{Passed, accepted_places, accepted_store}
-use Rattle.tape.specs.Numbers.{store_few}
+use Rattle.tape.specs.Held.{Held}
 use Rattle.lookup.specs.declared.RangeAt.{RangeAt}
 use Rattle.lookup.specs.Asked.{ask_accepted, ask_shown}
 
@@ -111,29 +110,22 @@ module _ {x ok : Bool} (e : x ≡ ok) (place len : ℕ) where
   range_there f q = rw (← e, f, q) refl
 
 -- the entries
-module _ {t d : List ℕ} {p : Places} (a : Passed t d p) where
-  pub asked_store : StoreFits t p.layers
-  asked_store = accepted_store a.whole a.is
+module _ {t d : List ℕ} {p : Places} {st : Store} (a : Held t d p st) where
+  said : (ok : LexOutput → Bool) (place len : ℕ) → {r : Option RangeAt} → r ≡ range_if (ok (book_at t (places t) d)) place len
+      → accepted r ≡ ask_book t d (λ b. range_if (ok b) place len)
+  said ok place len e = ap {B = Checked (Option RangeAt)} accepted e ∙ ask_accepted a.accepted (λ (b : LexOutput). range_if (ok b) place len)
 
-  module _ {st : Store} (s : st ≡ store_at t) where
-    pub asked_few : st.layers ≤ 32
-    asked_few = store_few (accepted_places a.whole a.is) asked_store s
+  module _ (start len : ℕ) {r : Option RangeAt} where
+    pub contents_said : r ≡ range_if (range_in st.contents st.layers st.totals.contents start len) (content_place st start) len
+        → accepted r ≡ ask_book t d (λ b. range_if (contents_ok start len b) (content_place (store_at t) start) len)
+    contents_said e =
+        said (contents_ok start len) (content_place (store_at t) start) len
+        (e ∙ ap (λ (x : Bool). range_if x (content_place st start) len) (contents_test t d start len st a.stored)
+        ∙ ap (λ (x : Store). range_if (contents_ok start len (book_at t (places t) d)) (content_place x start) len) a.stored)
 
-    said : (ok : LexOutput → Bool) (place len : ℕ) → {r : Option RangeAt} → r ≡ range_if (ok (book_at t (places t) d)) place len
-        → accepted r ≡ ask_book t d (λ b. range_if (ok b) place len)
-    said ok place len e = ap {B = Checked (Option RangeAt)} accepted e ∙ ask_accepted a.whole (λ (b : LexOutput). range_if (ok b) place len)
-
-    module _ (start len : ℕ) {r : Option RangeAt} where
-      pub contents_said : r ≡ range_if (range_in st.contents st.layers st.totals.contents start len) (content_place st start) len
-          → accepted r ≡ ask_book t d (λ b. range_if (contents_ok start len b) (content_place (store_at t) start) len)
-      contents_said e =
-          said (contents_ok start len) (content_place (store_at t) start) len
-          (e ∙ ap (λ (x : Bool). range_if x (content_place st start) len) (contents_test t d start len st s)
-          ∙ ap (λ (x : Store). range_if (contents_ok start len (book_at t (places t) d)) (content_place x start) len) s)
-
-      pub segments_said : r ≡ range_if (range_in st.segments st.layers st.totals.segments start len) (segment_place st start) len
-          → accepted r ≡ ask_book t d (λ b. range_if (segments_ok start len b) (segment_place (store_at t) start) len)
-      segments_said e =
-          said (segments_ok start len) (segment_place (store_at t) start) len
-          (e ∙ ap (λ (x : Bool). range_if x (segment_place st start) len) (segments_test t d start len st s)
-          ∙ ap (λ (x : Store). range_if (segments_ok start len (book_at t (places t) d)) (segment_place x start) len) s)
+    pub segments_said : r ≡ range_if (range_in st.segments st.layers st.totals.segments start len) (segment_place st start) len
+        → accepted r ≡ ask_book t d (λ b. range_if (segments_ok start len b) (segment_place (store_at t) start) len)
+    segments_said e =
+        said (segments_ok start len) (segment_place (store_at t) start) len
+        (e ∙ ap (λ (x : Bool). range_if x (segment_place st start) len) (segments_test t d start len st a.stored)
+        ∙ ap (λ (x : Store). range_if (segments_ok start len (book_at t (places t) d)) (segment_place x start) len) a.stored)

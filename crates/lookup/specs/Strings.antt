@@ -1,5 +1,5 @@
 -- Where the string of an id stands in the byte buffer, and that what stands there is the model's answer.
-use Rattle.std.specs.Prelude.{◌≡◌, ℕ, suc, ◌+◌, ◌-◌, ◌≤◌, ◌<◌, ◌^◌, cond, drop, ltb, Option, Some, None}
+use Rattle.std.specs.Prelude.{◌≡◌, ℕ, suc, ◌+◌, ◌-◌, ◌≤◌, ◌<◌, Bool, true, false, cond, drop, ltb, Option, Some, None}
 use Rattle.std.proofs.Math.Path.{refl, sym, ap, ap₂}
 use Rattle.std.proofs.Common.{◌∙◌, drop-drop}
 use native.Mathlib.Omega.{arith}
@@ -7,7 +7,7 @@ use Rattle.std.proofs.Math.Option as maybe
 use mathlib.Core.List.{List, [], map}
 use Rattle.std.proofs.Math.ListN.{length, get_or, take}
 use Rattle.std.proofs.lemmas.List.{length-map}
-use borrow.Author.Tests.{lt-ltb, le-ltb, ltb-true, ltb-false}
+use borrow.Author.Tests.{ltb-true, ltb-false}
 use Rattle.model.specs.Lists.{sum}
 use Rattle.model.specs.Bytes.{part, word_at}
 use Rattle.model.specs.Offset.{Span}
@@ -16,11 +16,11 @@ use Rattle.model.specs.Refusal.{Checked, Checked.accepted}
 use Rattle.model.specs.Tape.{places, pieces, book_at}
 use Rattle.model.specs.Store.{store_of, string_span}
 use Rattle.model.specs.Lookup.{ask_book, lookup_str, lookup_str_span}
-use Rattle.laws.specs.Lists.{item_in, item_out}
+use Rattle.facts.specs.Truth.{by_bool}
+use Rattle.facts.specs.Lists.{item_in, item_out}
 use Rattle.laws.specs.RoundTrip.{pieces_lengths}
-use Rattle.wire.specs.Loops.{by_bool}
 use Rattle.refusal.specs.Refusal.{checked_map}
-use Rattle.tape.specs.Accepted.{Passed}
+use Rattle.tape.specs.Held.{Held, held_texts}
 use Rattle.places.specs.declared.Places.{Places}
 use Rattle.places.specs.Found.{found}
 use Rattle.places.specs.Again.{Frame}
@@ -29,10 +29,9 @@ use Rattle.store.specs.Stored.{store_at}
 use Rattle.store.specs.Pools.{before_next}
 use Rattle.store.specs.Standing.{string_pool, length_pools, strings_pieces, length_at, string_at_lem}
 use Rattle.store.specs.Lengths.{book_lengths}
-use Rattle.strings.specs.Starts.{lengths_in, start_in, Readable, string_bytes_lem, readable, start_most}
+use Rattle.strings.specs.Starts.{lengths_in, start_in, Readable, string_bytes_lem, start_most}
 use Rattle.lookup.specs.declared.StrAt.{StrAt}
 use Rattle.lookup.specs.Asked.{ask_accepted, ask_shown}
-use Rattle.lookup.specs.Ranges.{asked_few}
 
 -- ---- answers
 
@@ -135,16 +134,16 @@ abbrev str_from : ℕ → ℕ → Option StrAt
 str_from start end = Some (record { start = start; end = end })
 
 module _ (count from : ℕ) (lengths : List ℕ) (id : ℕ) where
-  pub str_none : count ≤ id → None ≡ str_if (span_from count from lengths id)
+  pub str_none : {x : Bool} → x ≡ ltb id count → x ≡ false → None ≡ str_if (span_from count from lengths id)
   unfolding str_if span_from
-  str_none h = rw (le-ltb id count h) refl
+  str_none e f = rw (← e, f) refl
 
-  pub str_there : id < count → {start len : ℕ} → start ≡ sum (take id lengths) → len ≡ get_or lengths id 0
+  pub str_there : {x : Bool} → x ≡ ltb id count → x ≡ true → {start len : ℕ} → start ≡ sum (take id lengths) → len ≡ get_or lengths id 0
       → Some (record { start = from + start; end = from + start + len }) ≡ str_if (span_from count from lengths id)
   unfolding str_if span_from string_span
-  str_there h {start} {len} s n =
+  str_there e f {start} {len} s n =
       let q : from + start + len ≡ from + (sum (take id lengths) + get_or lengths id 0) = omega (arith, s, n) in
-      rw (lt-ltb id count h) (ap₂ str_from (ap (λ (x : ℕ). from + x) s) q)
+      rw (← e, f) (ap₂ str_from (ap (λ (x : ℕ). from + x) s) q)
 
 -- no string ends behind the bytes
 pub str_inside : {t : List ℕ} {st : Store} {room : ℕ} → Readable t st room → (id : ℕ) {start len : ℕ} → start ≡ start_in t id → len ≡ get_or (lengths_in t) id 0
@@ -153,16 +152,12 @@ str_inside {t} f id s n = let m = start_most f (suc id) in let k = before_next (
 
 -- ---- the returns of `lookup_str`
 
-module _ {t d : List ℕ} {p : Places} (a : Passed t d p) {st : Store} (s : st ≡ store_at t) where
-  pub asked_readable : length d < 2 ^ 63 → Readable t st (length d)
-  asked_readable h = readable t d a.whole.framing st s (asked_few a s) h
-
-  pub str_said : (id : ℕ) {from : ℕ} → from ≡ p.text + p.normalized → {r : Option StrAt} → r ≡ str_if (span_from st.totals.strings from (lengths_in t) id)
+module _ {t d : List ℕ} {p : Places} {st : Store} (a : Held t d p st) where
+  pub str_said : (id : ℕ) {from : ℕ} → from ≡ p.text.0 + p.normalized.0 → {r : Option StrAt} → r ≡ str_if (span_from st.totals.strings from (lengths_in t) id)
       → accepted r ≡ ask_book t d (λ b. str_if (lookup_str_span b id))
-  unfolding found
   str_said id {from} g {r} e =
-      let f = a.whole.framing in
-      let n : st.totals.strings ≡ length (lengths_in t) = (string_pool t st s).all ∙ sym (length_pools t (places t).layers) in
-      let q : from ≡ word_at t 1 + word_at t 5 = g ∙ ap (λ (x : Places). x.text + x.normalized) a.is in
+      let f = a.accepted.framing in
+      let n : st.totals.strings ≡ length (lengths_in t) = (string_pool t st a.stored).all ∙ sym (length_pools t (places t).layers) in
+      let q : from ≡ word_at t 1 + word_at t 5 = g ∙ held_texts a in
       ap {B = Checked (Option StrAt)} accepted (e ∙ ap₂ (λ (x y : ℕ). str_if (span_from x y (lengths_in t) id)) n q ∙ ap str_if (sym (span_is t d f id)))
-      ∙ ask_accepted a.whole (λ (b : LexOutput). str_if (lookup_str_span b id))
+      ∙ ask_accepted a.accepted (λ (b : LexOutput). str_if (lookup_str_span b id))

@@ -1,5 +1,5 @@
 -- A memo: entries of five words, what was found at a place of a level. What holds of every entry still holds when one is put, if it holds of that.
-use Rattle.std.specs.Prelude.{◌≡◌, ℕ, zero, suc, ◌+◌, ◌*◌, ◌≤◌, ◌<◌, Bool, true, false, cond, ◌&&◌, List, [], ◌∷◌, length, set, leb, ltb, eqb}
+use Rattle.std.specs.Prelude.{◌≡◌, ℕ, suc, ◌+◌, ◌*◌, ◌≤◌, ◌<◌, Bool, true, false, cond, ◌&&◌, List, [], ◌∷◌, length, set, leb, ltb, eqb}
 use Rattle.std.proofs.Math.Path.{refl}
 use Rattle.std.proofs.Common.{sym, ap, ◌∙◌, subst, true≢false}
 use native.Mathlib.Omega.{arith}
@@ -7,8 +7,8 @@ use Rattle.std.proofs.Math.ListN.{get_or}
 use Rattle.std.proofs.lemmas.List.Edits.{sets-eq}
 use borrow.Author.Tests.{le-leb, lt-leb, eq-eqb, ne_eqb, leb-true, ltb-true, ltb-false, eqb-true}
 use Rattle.model.specs.Bytes.{zeros}
-use Rattle.laws.specs.Lists.{both}
-use Rattle.wire.specs.Loops.{by_bool}
+use Rattle.facts.specs.Truth.{both, by_bool}
+use Rattle.facts.specs.Lists.{get_zeros}
 use Rattle.wire.specs.Overwrite.{overwrite, get_d_overwrite, get_d_before, get_d_behind}
 
 -- what was found at a place of a level; none where the level is 0
@@ -57,15 +57,10 @@ pub is_there : (m : List ℕ) (e place level : ℕ) → is_of m e place level �
 unfolding is_of
 is_there m e place level h = leb-true (5 * e + 5) (length m) (both (leb (5 * e + 5) (length m)) _ h).0
 
-zero_at : (n i : ℕ) → get_or (zeros n) i 0 ≡ 0
-zero_at zero i = refl
-zero_at (suc n) zero = refl
-zero_at (suc n) (suc i) = zero_at n i
-
 -- an empty memo has no entry
 pub none_in : (n e : ℕ) → (entry_in (zeros n) e).level ≡ 0
 unfolding entry_in
-none_in n e = zero_at n (5 * e + 1)
+none_in n e = get_zeros n (5 * e + 1)
 
 -- ---- what holds of every entry
 

@@ -15,6 +15,7 @@ use edit::Edit;
 use lines::Line;
 use output::IncrementalOutput;
 use refusal::Refusal;
+use span::SourceOffset;
 use std::io;
 use std::io::{Read, Write};
 
@@ -39,8 +40,8 @@ fn merge_parts(
         wire::between(input, oldbytes, replacement),
     );
     let edit = Edit {
-        start: wire::u32_at(input, 8),
-        end: wire::u32_at(input, 12),
+        start: SourceOffset(wire::u32_at(input, 8)),
+        end: SourceOffset(wire::u32_at(input, 12)),
         replacement: wire::between(input, replacement, newtape),
     };
     let reading = Stored::new(

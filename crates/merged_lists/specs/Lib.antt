@@ -1,3 +1,4 @@
 pub mod Widths
 pub mod Sizes
+pub mod Fitted
 pub mod Lists

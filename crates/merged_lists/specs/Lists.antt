@@ -10,25 +10,28 @@ use Rattle.model.specs.Types.{SourceNode, PairLink, ContainerPair, Diagnostic}
 use Rattle.model.specs.Bytes.{part}
 use Rattle.model.specs.Tape.{Codec, records_at, records_bytes, node_codec, pair_codec, container_codec, diagnostic_codec}
 use Rattle.model.specs.Merge.{MergeWindow, Located, kept_before, kept_behind, spliced, node_located, pair_located, container_located, diagnostic_located, sort_diagnostics}
-use Rattle.laws.specs.Lists.{all_keep}
-use Rattle.laws.specs.Keep.{all_map_is}
+use Rattle.facts.specs.Keep.{all_keep, all_map_is}
 use Rattle.laws.specs.Located.{is_before, is_behind}
 use Rattle.laws.specs.Fits.{record_fits}
-use Rattle.laws.specs.Records.{diagnostic_lawful}
+use Rattle.laws.specs.Records.{diagnostic_lawful, run_length, records_stand}
 use Rattle.wire.specs.Overwrite.{overwrite, length_overwrite, overwrite_next, drop_overwrite, Wrote, wrote_next}
-use Rattle.records.specs.Runs.{run_length}
 use Rattle.splice.specs.Parts.{Kind}
-use Rattle.splice.specs.Spliced.{before_long, placed_long, behind_long, spliced_length, spliced_written, records_stand}
+use Rattle.splice.specs.Spliced.{before_long, placed_long, behind_long, spliced_length, spliced_written}
 use Rattle.diagnostics.specs.Sorted.{sort_length}
 use Rattle.diagnostics.specs.Runs.{Diagnostics, written_diagnostics}
 use Rattle.wire.specs.Apart.{overwrite_covered, overwrite_part}
 use Rattle.places.specs.declared.Places.{Places}
-use Rattle.tape.specs.Placed.{PlacesFit, fit_nodes, fit_pairs, fit_containers, fit_diagnostics}
+use Rattle.tape.specs.Held.{held_places}
+use Rattle.tape.specs.Placed.{fit_nodes, fit_pairs, fit_containers, fit_diagnostics}
+use Rattle.splice.specs.Window.{window_value}
+use Rattle.fitting.specs.declared.merging.Merging.{Merging}
 use Rattle.merged_lists.specs.declared.Kept.{Kept}
-use Rattle.merged_lists.specs.Sizes.{sides_of, kept_of, total_of, Small, lists_end}
-use Rattle.laws.specs.Parts.{six_words, nodes_width, nodes_six, pairs_width, containers_width, diagnostics_width}
+use Rattle.merged_lists.specs.declared.counts.Counts.{Counts}
+use Rattle.merged_lists.specs.declared.Totals.{Totals}
+use Rattle.merged_lists.specs.Sizes.{sides_of, kept_of, total_of, totals_of, TotalsAre, totals_are, lists_end}
+use Rattle.merged_lists.specs.Fitted.{CountsOf}
+use Rattle.laws.specs.Parts.{six_words, nodes_width, nodes_six, pairs_width, containers_width, diagnostics_width, bytes_append}
 use Rattle.merged_lists.specs.Widths.{spliced_six, records_moved}
-use Rattle.put_records.specs.Runs.{bytes_append}
 
 -- ---- definitions
 
@@ -63,13 +66,10 @@ lists_of w t p rt q ns =
     ++ diagnostic_bytes w (old_diagnostics t p) (old_diagnostics rt q) ++ (10 ∷ [])
 
 -- what `put_lists` asks: the grafted nodes stand where the lists begin
-pub record Lists (t : List ℕ) (p : Places) (w : MergeWindow) (k : Kept) (rt : List ℕ) (q : Places) (size at : ℕ) : Type 0 where
-  pub old : PlacesFit t p
-  pub reading : PlacesFit rt q
-  pub kept : k ≡ kept_of w t p
-  pub small : Small k q
-  pub room : lists_end at k q ≤ size
-  pub diagnostics : all (record_fits diagnostic_codec) (spliced diagnostic_located w (old_diagnostics t p) (old_diagnostics rt q)) ≡ true
+pub record Lists (m : Merging) (c : Counts) (size at : ℕ) : Type 0 where
+  pub counts : CountsOf m c
+  pub room : lists_end at c.kept c.reading ≤ size
+  pub diagnostics : all (record_fits diagnostic_codec) (spliced diagnostic_located (window_value m.window) (old_diagnostics m.book.tape.now m.book.places) (old_diagnostics m.reading.tape.now m.reading.places)) ≡ true
 
 -- ---- three parts of a list of any kind of record
 
@@ -239,33 +239,57 @@ pub record KeptIs (w : MergeWindow) (t : List ℕ) (p : Places) (k : Kept) : Typ
   pub diagnostics_before : k.diagnostics.before ≡ length (kept_before diagnostic_located w (old_diagnostics t p))
   pub diagnostics_behind : k.diagnostics.behind ≡ length (kept_behind diagnostic_located w (old_diagnostics t p))
 
-module _ {t : List ℕ} {p : Places} {w : MergeWindow} {k : Kept} {rt : List ℕ} {q : Places} {size at : ℕ} (l : Lists t p w k rt q size at) where
+module _ {m : Merging} {c : Counts} {size at : ℕ} (l : Lists m c size at) where
+  abbrev t : List ℕ
+  t = m.book.tape.now
+
+  abbrev p : Places
+  p = m.book.places
+
+  abbrev w : MergeWindow
+  w = window_value m.window
+
+  abbrev rt : List ℕ
+  rt = m.reading.tape.now
+
+  abbrev q : Places
+  q = m.reading.places
+
+  abbrev k : Kept
+  k = c.kept
+
+  size_is : lists_end at k q ≤ size
+  size_is = let r = l.room in rw l.counts.reading at r
+
   pub lists_room : at + 49 * total_of k.nodes q.nodes.count + 18 * total_of k.pairs q.pairs.count + 13 * total_of k.containers q.containers.count
       + 18 * total_of k.diagnostics q.diagnostics.count + 1 ≤ size
   unfolding lists_end
-  lists_room = l.room
+  lists_room = size_is
+
+  pub lists_totals : {all : Totals} → all ≡ totals_of k c.reading → TotalsAre k q all
+  lists_totals e = totals_are k q (e ∙ ap (λ (x : Places). totals_of k x) l.counts.reading)
 
   pub kept_is : KeptIs w t p k
   unfolding kept_of
   kept_is = record {
-    nodes_before = ap (λ (x : Kept). x.nodes.before) l.kept;
-    nodes_behind = ap (λ (x : Kept). x.nodes.behind) l.kept;
-    pairs_before = ap (λ (x : Kept). x.pairs.before) l.kept;
-    pairs_behind = ap (λ (x : Kept). x.pairs.behind) l.kept;
-    containers_before = ap (λ (x : Kept). x.containers.before) l.kept;
-    containers_behind = ap (λ (x : Kept). x.containers.behind) l.kept;
-    diagnostics_before = ap (λ (x : Kept). x.diagnostics.before) l.kept;
-    diagnostics_behind = ap (λ (x : Kept). x.diagnostics.behind) l.kept;
+    nodes_before = ap (λ (x : Kept). x.nodes.before) l.counts.kept;
+    nodes_behind = ap (λ (x : Kept). x.nodes.behind) l.counts.kept;
+    pairs_before = ap (λ (x : Kept). x.pairs.before) l.counts.kept;
+    pairs_behind = ap (λ (x : Kept). x.pairs.behind) l.counts.kept;
+    containers_before = ap (λ (x : Kept). x.containers.before) l.counts.kept;
+    containers_behind = ap (λ (x : Kept). x.containers.behind) l.counts.kept;
+    diagnostics_before = ap (λ (x : Kept). x.diagnostics.before) l.counts.kept;
+    diagnostics_behind = ap (λ (x : Kept). x.diagnostics.behind) l.counts.kept;
   }
 
   pub lists_runs : (p.nodes.at + 49 * p.nodes.count ≤ length t) × ((p.pairs.at + 18 * p.pairs.count ≤ length t) × (q.pairs.at + 18 * q.pairs.count ≤ length rt))
       × ((p.containers.at + 13 * p.containers.count ≤ length t) × (q.containers.at + 13 * q.containers.count ≤ length rt))
       × ((p.diagnostics.at + 18 * p.diagnostics.count ≤ length t) × (q.diagnostics.at + 18 * q.diagnostics.count ≤ length rt))
   lists_runs = (
-    fit_nodes l.old,
-    (fit_pairs l.old, fit_pairs l.reading),
-    (fit_containers l.old, fit_containers l.reading),
-    (fit_diagnostics l.old, fit_diagnostics l.reading),
+    fit_nodes (held_places m.book.held),
+    (fit_pairs (held_places m.book.held), fit_pairs (held_places m.reading.held)),
+    (fit_containers (held_places m.book.held), fit_containers (held_places m.reading.held)),
+    (fit_diagnostics (held_places m.book.held), fit_diagnostics (held_places m.reading.held)),
   )
 
   pub lists_wrote : (d : List ℕ) → size ≡ length d → (a₁ a₂ a₃ a₄ : ℕ) → a₁ ≡ at + 49 * total_of k.nodes q.nodes.count → a₂ ≡ a₁ + 18 * total_of k.pairs q.pairs.count

@@ -9,7 +9,7 @@ use Rattle.model.specs.Lists.{keep}
 use Rattle.model.specs.Limits.{max_text, max_list, min_work_words}
 use Rattle.model.specs.Tape.{records_at, node_codec, pair_codec, container_codec, diagnostic_codec}
 use Rattle.model.specs.Merge.{MergeWindow, Located, kept_before, kept_behind, node_located, pair_located, container_located, diagnostic_located}
-use Rattle.laws.specs.Lists.{both}
+use Rattle.facts.specs.Truth.{both}
 use Rattle.laws.specs.Located.{is_before, is_behind}
 use Rattle.places.specs.declared.Places.{Places}
 use Rattle.merged_lists.specs.declared.Sides.{Sides}
@@ -44,9 +44,9 @@ totals_of k q = record {
 
 abbrev pub lengths_of : Places → Places → ℕ → ℕ → ℕ → ℕ → ℕ → ℕ → Lengths
 lengths_of p q start end added from to size = record {
-  text = start + added + (p.text - end);
-  normalized = from + q.normalized + (p.normalized - to);
-  base = start + added + (p.text - end) + (from + q.normalized + (p.normalized - to)) + (size - (p.text + p.normalized));
+  text = start + added + (p.text.0 - end);
+  normalized = from + q.normalized.0 + (p.normalized.0 - to);
+  base = start + added + (p.text.0 - end) + (from + q.normalized.0 + (p.normalized.0 - to)) + (size - (p.text.0 + p.normalized.0));
 }
 
 -- Number 3 of the four lists.

@@ -1,10 +1,10 @@
 -- The bodies of merged nodes have six words, as many as of a reading are grafted, and records read at another place are the same.
-use Rattle.std.specs.Prelude.{◌≡◌, ℕ, zero, suc, ◌+◌, ◌*◌, ◌≤◌, ◌<◌, true, length, get_or, drop}
+use Rattle.std.specs.Prelude.{◌≡◌, ℕ, suc, ◌+◌, ◌*◌, ◌≤◌, ◌<◌, true, length, get_or, drop}
 use Rattle.std.proofs.Math.Path.{refl, ap, ap₂}
 use Rattle.std.proofs.Common.{sym, ◌∙◌, arith, mul-le-mul_left, mul-suc, add_assoc, get_or-take, get_or-drop, eq-eqb}
 use mathlib.Core.List.{List, [], ◌∷◌, map}
 use Rattle.std.proofs.lemmas.List.{length-map}
-use Rattle.model.specs.Lists.{all, sum, tabulate}
+use Rattle.model.specs.Lists.{all, sum}
 use Rattle.model.specs.Bytes.{byte_at, word_at, part}
 use Rattle.model.specs.Types.{SourceNode, LexOutput, RegionOutput}
 use Rattle.model.specs.Tape.{Operand, Operand.byte, Operand.word, operand_size, value_at, Codec, record_size, operands_at, record_at, records_at}
@@ -12,7 +12,8 @@ use Rattle.model.specs.Store.{store_of}
 use Rattle.model.specs.Tree.{ShownNode, shown_node, shown_nodes}
 use Rattle.model.specs.Graft.{NewLayer, layered, graft_node_ref, graft_node_refs}
 use Rattle.model.specs.Merge.{MergeWindow, spliced, node_located, grafted}
-use Rattle.laws.specs.Lists.{join}
+use Rattle.facts.specs.Truth.{join}
+use Rattle.facts.specs.Lists.{tabulate_same}
 use Rattle.laws.specs.Located.{spliced_all}
 use Rattle.laws.specs.Parts.{six_words}
 use Rattle.graft.specs.Widths.{node_six}
@@ -39,10 +40,6 @@ unfolding node_located six_words
 spliced_six w old reading a b = spliced_all node_located w six_words six_words six_words (λ n o h. o) (λ n o. o) (λ n o h. o) old reading a b
 
 -- ---- the same bytes at another place are the same records
-
-tabulate_same : {A : Type 0} (n : ℕ) (f g : ℕ → A) → ((i : ℕ) → i < n → f i ≡ g i) → tabulate n f ≡ tabulate n g
-tabulate_same zero f g e = refl
-tabulate_same (suc n) f g e = ap₂ (λ x xs. x ∷ xs) (e zero (omega arith)) (tabulate_same n (λ i. f (suc i)) (λ i. g (suc i)) (λ i h. e (suc i) (omega (arith, h))))
 
 module _ (t t' : List ℕ) (p p' n : ℕ) (e : part t p n ≡ part t' p' n) where
   byte_moved : (i : ℕ) → i < n → byte_at t (p + i) ≡ byte_at t' (p' + i)

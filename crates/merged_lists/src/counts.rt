@@ -4,18 +4,12 @@
 ghost use Rattle.merged_lists.specs.Sizes.{Small};
 
 use crate::{Kept, Lengths, Totals};
+use fitting::Merging;
+use numbers::{MAX_LIST, MAX_TEXT, MIN_WORK_WORDS};
 use places::Places;
 use splice::Spliced;
 use splice_lists::{Containers, Diagnostics, Pairs};
 use splice_nodes::Nodes;
-
-// The numbers of document 01 as this crate tests them; the contracts hold them to the model's `max_text`, `max_list`, `min_work_words`.
-
-const MAX_TEXT: usize = 16777215;
-
-const MAX_LIST: usize = 262143;
-
-const MIN_WORK_WORDS: usize = 16384;
 
 // How many old elements of each list are kept, and where the reading's lists stand, which go between them; no sum of both is too large.
 #[derive(Clone, Copy)]
@@ -27,7 +21,17 @@ pub struct Counts {
 
 impl Counts {
     ghost use Rattle.std.specs.Prelude.{◌≡◌, ◌^◌, ◌<◌};
+    ghost use Rattle.merged_lists.specs.Fitted.{CountsOf};
     ghost use Rattle.merged_lists.specs.Sizes.{totals_of, lists_fit, room_for, lists_end};
+
+    pub fn of(m: &Merging) -> Counts
+        ensures { CountsOf m.now result }
+    {
+        Counts {
+            kept: crate::kept_in(m),
+            reading: m.reading.places,
+        }
+    }
 
     pub fn totals(&self) -> Totals
         ensures { result ≡ totals_of self.now.kept self.now.reading }

@@ -2,22 +2,22 @@
 // gets, number 18 as far as it is known before the graft, and the lists written one behind the other.
 #![tactic(auto)]
 
-ghost use Rattle.std.specs.Prelude.{◌≡◌, true, ◌+◌, ◌-◌, ◌*◌, ◌≤◌, length};
+ghost use Rattle.std.specs.Prelude.{◌≡◌, true, ◌+◌, ◌*◌, ◌≤◌, length};
 ghost use Rattle.wire.specs.Overwrite.{overwrite};
 ghost use Rattle.model.specs.Lists.{all as all_of};
 ghost use Rattle.model.specs.Tape.{records_at, records_bytes, node_codec, diagnostic_codec};
 ghost use Rattle.model.specs.Merge.{kept_before, spliced, node_located, diagnostic_located};
 ghost use Rattle.laws.specs.Fits.{record_fits};
 ghost use Rattle.splice.specs.Window.{window_value};
-ghost use Rattle.tape.specs.Placed.{PlacesFit};
-ghost use Rattle.merged_lists.specs.Sizes.{sides_of, kept_of, Few, total_of, lengths_of};
+ghost use Rattle.merged_lists.specs.Sizes.{sides_of, kept_of, Few, total_of};
+ghost use Rattle.merged_lists.specs.Fitted.{lengths_in, kept_in};
 ghost use Rattle.merged_lists.specs.Lists.{lists_of, Lists, node_bytes, diagnostic_bytes};
 ghost use Rattle.output.specs.Answer.{output_by};
 
 mod counts;
 
-use books::Merging;
 pub use counts::Counts;
+use fitting::Merging;
 use splice::{Section, Spliced, Window};
 use splice_lists::{Containers, Diagnostics, Pairs};
 use splice_nodes::Nodes;
@@ -67,19 +67,19 @@ pub struct Lengths {
 }
 
 pub fn new_lengths(m: &Merging) -> Lengths
-    requires end_le_text { (m.now.edit.end ≤ m.now.book.places.text) × (m.now.window.normalized.end ≤ m.now.book.places.normalized) × (m.now.edit.start + length m.now.edit.replacement.now + (m.now.book.places.text - m.now.edit.end) ≤ 16777215) }
-    requires normalized_bound { m.now.book.places.text + m.now.book.places.normalized ≤ length m.now.book.bytes.now }
-    ensures { result ≡ lengths_of m.now.book.places m.now.reading.places m.now.edit.start m.now.edit.end (length m.now.edit.replacement.now) m.now.window.normalized.start m.now.window.normalized.end (length m.now.book.bytes.now) }
+    ensures { result ≡ lengths_in m.now }
 {
     let p = m.book.places;
     let q = m.reading.places;
     let edit = m.edit;
     let w = m.window;
-    let text = edit.start as usize + edit.replacement.len() + (p.text as usize - edit.end as usize);
-    let normalized = w.normalized.start as usize
-        + q.normalized as usize
-        + (p.normalized as usize - w.normalized.end as usize);
-    let strings = m.book.bytes.len() - (p.text as usize + p.normalized as usize);
+    let text = edit.start.0 as usize
+        + edit.replacement.len()
+        + (p.text.0 as usize - edit.end.0 as usize);
+    let normalized = w.normalized.start.0 as usize
+        + q.normalized.0 as usize
+        + (p.normalized.0 as usize - w.normalized.end.0 as usize);
+    let strings = m.book.bytes.len() - (p.text.0 as usize + p.normalized.0 as usize);
     Lengths {
         text,
         normalized,
@@ -96,10 +96,12 @@ fn sides_in<K: Spliced>(old: &Section<K>, w: Window) -> Sides
     }
 }
 
-pub fn kept_in(tape: &[u8], p: places::Places, w: Window) -> Kept
-    requires { PlacesFit tape.now p }
-    ensures { result ≡ kept_of (window_value w) tape.now p }
+fn kept_in(m: &Merging) -> Kept
+    ensures { result ≡ kept_in m.now }
 {
+    let tape = m.book.tape;
+    let p = m.book.places;
+    let w = m.window;
     Kept {
         nodes: sides_in::<Nodes>(&Section::new(tape, p.nodes), w),
         pairs: sides_in::<Pairs>(&Section::new(tape, p.pairs), w),
@@ -108,7 +110,7 @@ pub fn kept_in(tape: &[u8], p: places::Places, w: Window) -> Kept
     }
 }
 
-// `before` is counted already, by `kept_in`. A struct of section, window and count would be made for one call of each of the three.
+// `before` is counted already, by `Counts::of`. A struct of section, window and count would be made for one call of each of the three.
 
 // `merge_source_nodes`: the grafted nodes stand at `to` already.
 fn put_nodes(
@@ -172,11 +174,11 @@ fn put_diagnostics(
 
 // The four lists from `at` on, where the grafted nodes stand, and command 10.
 pub fn put_lists(m: &Merging, counts: &Counts, out: &mut [u8], at: usize)
-    requires { Lists m.now.book.tape.now m.now.book.places (window_value m.now.window) counts.now.kept m.now.reading.tape.now counts.now.reading (length out.old) at }
-    ensures { out.new ≡ overwrite out.old at (lists_of (window_value m.now.window) m.now.book.tape.now m.now.book.places m.now.reading.tape.now counts.now.reading (records_at node_codec out.old at counts.now.reading.nodes.count)) }
+    requires { Lists m.now counts.now (length out.old) at }
+    ensures { out.new ≡ overwrite out.old at (lists_of (window_value m.now.window) m.now.book.tape.now m.now.book.places m.now.reading.tape.now m.now.reading.places (records_at node_codec out.old at m.now.reading.places.nodes.count)) }
 {
     let p = m.book.places;
-    let q = counts.reading;
+    let q = m.reading.places;
     let k = counts.kept;
     let w = m.window;
     let tape = m.book.tape;
@@ -227,21 +229,20 @@ pub fn put_lists(m: &Merging, counts: &Counts, out: &mut [u8], at: usize)
 
 // Section 7. reused: old nodes kept on either side; reread: the reading's. The answer has the region as two numbers, as C gets it.
 pub fn output_of(
-    w: Window,
-    s: Sides,
-    reread: usize,
+    window: Window,
+    counts: &Counts,
     stats: stats::InternStats,
     tape: usize,
     bytes: usize,
 ) -> output::IncrementalOutput
-    requires { Few s reread }
-    ensures { result ≡ output_by w.source.start w.source.end (s.before + s.behind) reread stats tape bytes }
+    ensures { result ≡ output_by window.source.start.0 window.source.end.0 (counts.now.kept.nodes.before + counts.now.kept.nodes.behind) counts.now.reading.nodes.count stats tape bytes }
 {
+    let kept = counts.kept.nodes;
     output::IncrementalOutput {
-        start: w.source.start,
-        end: w.source.end,
-        reused: (s.before + s.behind) as u32,
-        reread: reread as u32,
+        start: window.source.start.0,
+        end: window.source.end.0,
+        reused: (kept.before + kept.behind) as u32,
+        reread: counts.reading.nodes.count as u32,
         stats,
         tape,
         bytes,

@@ -3,7 +3,7 @@ use Rattle.std.specs.Prelude.{◌≡◌, ℕ, ◌+◌, ◌-◌, ◌≤◌, List,
 use Rattle.std.proofs.Common.{ap, ◌∙◌, arith, append_assoc, length-append, length-drop, length-take-le, take_all}
 use Rattle.std.proofs.Math.Nat.{sub-zero}
 use Rattle.model.specs.Bytes.{word_bytes}
-use Rattle.laws.specs.Words.{word_length}
+use Rattle.facts.specs.Words.{word_length}
 use Rattle.laws.specs.Parts.{head_bytes}
 use Rattle.laws.specs.Splice.{splice, splice_length}
 use Rattle.wire.specs.Overwrite.{overwrite, Wrote, wrote_next}

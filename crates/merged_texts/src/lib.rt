@@ -10,6 +10,7 @@ ghost use Rattle.laws.specs.Parts.{head_bytes};
 
 mod replaced;
 
+use numbers::HEAD_SIZE;
 pub use replaced::Replaced;
 
 // Both new texts, and the old strings as they stood.
@@ -31,5 +32,5 @@ pub fn put_head(out: &mut [u8], tape: &[u8], nodes_at: usize, text: u32, normali
     wire::put_u8(out, 0, 1);
     wire::put_u32(out, 1, text);
     wire::put_u32(out, 5, normalized);
-    wire::copy_at(out, 9, &tape[9..nodes_at]);
+    wire::copy_at(out, HEAD_SIZE, &tape[HEAD_SIZE..nodes_at]);
 }

@@ -5,7 +5,8 @@
 ghost use Rattle.std.specs.Prelude.{◌≡◌};
 ghost use Rattle.model.specs.Merge.{room_of, stored_of};
 ghost use Rattle.model.specs.Demand3.{cut_behind};
-ghost use Rattle.books.specs.Values.{stored_value, edit_value, correction_value};
+ghost use Rattle.edit.specs.Values.{edit_value};
+ghost use Rattle.books.specs.Values.{stored_value, correction_value};
 ghost use Rattle.refusal.specs.Refusal.{checked};
 ghost use Rattle.output.specs.Answer.{answers_of};
 ghost use Rattle.orders.specs.Orders.{MergedInOrder, MergedBothOrders};
@@ -14,14 +15,15 @@ use books::{Correction, Stored};
 use edit::Edit;
 use output::{BothOrders, IncrementalOutput};
 use refusal::Refusal;
+use span::SourceOffset;
 
 // Where an offset stands once an edit is made, cut at the largest u32.
-fn moved(offset: u32, edit: &Edit) -> u32
-    ensures { result ≡ cut_behind (edit_value edit.now) offset }
+fn moved(offset: SourceOffset, edit: &Edit) -> SourceOffset
+    ensures { result.0 ≡ cut_behind (edit_value edit.now) offset.0 }
 {
-    let longer = offset as usize + edit.replacement.len();
-    let removed = edit.end.saturating_sub(edit.start) as usize;
-    u32::try_from(longer.saturating_sub(removed)).unwrap_or(u32::MAX)
+    let longer = offset.0 as usize + edit.replacement.len();
+    let removed = edit.end.0.saturating_sub(edit.start.0) as usize;
+    SourceOffset(u32::try_from(longer.saturating_sub(removed)).unwrap_or(u32::MAX))
 }
 
 // What two calls answer, the second on the result of the first.

@@ -15,7 +15,7 @@ use Rattle.model.specs.Offset.{Span}
 use Rattle.model.specs.Types.{LexOutput, RegionOutput}
 use Rattle.model.specs.Region.{Edit, edited, behind_edit, region_text, edit_of}
 use Rattle.model.specs.Merge.{new_region_text}
-use Rattle.laws.specs.Lists.{part_length}
+use Rattle.facts.specs.Lists.{part_length}
 use Rattle.laws.specs.Splice.{splice, drop_take, take_splice_rest}
 use Rattle.compare.specs.Compare.{same_length}
 use Rattle.edit.specs.Same.{parts, edited_length}

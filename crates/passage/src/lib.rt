@@ -9,6 +9,8 @@ ghost use Rattle.model.specs.Region.{edited, edit_of};
 ghost use Rattle.passage.specs.Window.{ends_on_boundaries};
 ghost use Rattle.passage.specs.Layers.{missing_of};
 
+use span::NormalizedSpan;
+
 // Number 12. The reading's text is the passage with the edit made in it; `start` and `end` are offsets of the passage:
 // no span of a book has them, its caller makes them by subtraction. By lengths, as the definition has it: `strip_prefix` and `strip_suffix` would say
 // it through two `Option`s.
@@ -39,12 +41,13 @@ pub fn is_region_text(
     compare::same(&reading[there..reading.len()], &passage[end..passage.len()])
 }
 
-// Number 16. No cut falls inside a normalized character. By two numbers, each of which is tested by itself.
+// Number 16. No cut falls inside a normalized character.
 #[tactic(auto, using(std::proofs::lemmas::Bool::Decides::nat_tests), unfolding(crate::specs::Window::ends_on_boundaries))]
-pub fn cuts_ok(normalized: &[u8], start: usize, end: usize) -> bool
-    ensures { result ≡ ends_on_boundaries normalized.now start end }
+pub fn cuts_ok(normalized: &[u8], cuts: NormalizedSpan) -> bool
+    ensures { result ≡ ends_on_boundaries normalized.now cuts.start.0 cuts.end.0 }
 {
-    utf8::is_char_boundary(normalized, start) && utf8::is_char_boundary(normalized, end)
+    utf8::is_char_boundary(normalized, cuts.start.0 as usize)
+        && utf8::is_char_boundary(normalized, cuts.end.0 as usize)
 }
 
 // Number 17. The reading has nodes, and the old book 32 layers.

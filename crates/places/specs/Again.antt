@@ -9,8 +9,7 @@ use Rattle.std.proofs.Math.Option.{none}
 use Rattle.model.specs.Lists.{sum, is_empty}
 use Rattle.model.specs.Bytes.{byte_at}
 use Rattle.model.specs.Tape.{LayerPlaces, layer_places, layers_from, layers_end, places, framed, bytes_needed, book_at, if_shaped, parse, node_codec, pair_codec, container_codec, diagnostic_codec}
-use Rattle.laws.specs.Lists.{both}
-use Rattle.wire.specs.Loops.{by_bool}
+use Rattle.facts.specs.Truth.{both, by_bool}
 use Rattle.laws.specs.RoundTrip.{layer_end, layers_rise}
 use Rattle.places.specs.Found.{layer_runs, strings_in, contents_in, segments_in, two_inside, holds, found, places_of}
 use Rattle.places.specs.declared.LayerRuns.{LayerRuns}

@@ -8,11 +8,11 @@ use Rattle.std.proofs.Math.ListN.{length, get_or-eq_default}
 use Rattle.std.proofs.Math.Decide.{dec_le}
 use Rattle.std.proofs.Math.Nat.{sub-zero}
 use borrow.Author.Tests.{eq-eqb, ne_eqb, eqb-true, leb-true, leb-false}
-use Rattle.wire.specs.Loops.{by_bool}
 use Rattle.model.specs.Lists.{sum, is_empty}
 use Rattle.model.specs.Bytes.{byte_at, word_at}
 use Rattle.model.specs.Tape.{records_at, count_at, string_codec, content_codec, segment_codec, node_codec, pair_codec, container_codec, diagnostic_codec}
 use Rattle.model.specs.Tape.{LayerPlaces, layer_places, layers_from, layers_end, places, framed, string_lengths, bytes_needed}
+use Rattle.facts.specs.Truth.{by_bool}
 use Rattle.laws.specs.RoundTrip.{layer_end, string_bytes}
 use Rattle.places.specs.Runs.{capped}
 use Rattle.places.specs.Ends.{segments_end, diagnostics_end}
@@ -100,8 +100,8 @@ unfoldable pub found : List ℕ → Places
 found t =
     let p = places t in
     record {
-      text = word_at t 1;
-      normalized = word_at t 5;
+      text = record { 0 = word_at t 1 };
+      normalized = record { 0 = word_at t 5 };
       layers = length p.layers;
       strings = sum (strings_in p.layers);
       contents = sum (contents_in p.layers);
@@ -116,8 +116,8 @@ found t =
 -- what the walk has found, put together
 abbrev pub found_by : List ℕ → Tally → ListRuns → Places
 found_by t s l = record {
-  text = word_at t 1;
-  normalized = word_at t 5;
+  text = record { 0 = word_at t 1 };
+  normalized = record { 0 = word_at t 5 };
   layers = s.count;
   strings = s.strings;
   contents = s.contents;

@@ -12,7 +12,8 @@ use borrow.Author.Tests.{eq-eqb, ne_eqb, eqb-true}
 use Rattle.model.specs.Lists.{sum}
 use Rattle.model.specs.Bytes.{byte_at, word_at}
 use Rattle.model.specs.Tape.{records_in, records_at, record_at, operands_at, string_codec}
-use Rattle.laws.specs.Lists.{both}
+use Rattle.facts.specs.Truth.{both}
+use Rattle.laws.specs.Records.{records_skip}
 use Rattle.wire.specs.Loops.{sum_to, sum_tabulate}
 
 -- a sum that is known only up to room: over, it is room + 1
@@ -22,12 +23,6 @@ capped room n = min n (room + 1)
 -- ---- one record further
 
 module _ (command size : ℕ) where
-  records_skip : (k : ℕ) (t : List ℕ) → records_in command size k t ≡ records_in command size 0 (drop k t)
-  unfolding records_in
-  records_skip zero t = refl
-  records_skip (suc k) [] = refl
-  records_skip (suc k) (b ∷ t) = records_skip k t
-
   pub records_past : (t : List ℕ) (p : ℕ) → length t ≤ p → records_in command size 0 (drop p t) ≡ 0
   unfolding records_in
   records_past t p h = rw (drop_of_length-le t h)
@@ -41,7 +36,7 @@ module _ (command size : ℕ) where
   unfolding records_in
   records_more t p z h e =
       let next : suc p + (size - 1) ≡ p + size = omega arith in
-      rw (drop-cons t p 0 h, eq-eqb (byte_at t p) command e, records_skip (size - 1) (drop (suc p) t), drop-drop)
+      rw (drop-cons t p 0 h, eq-eqb (byte_at t p) command e, records_skip command size (size - 1) (drop (suc p) t), drop-drop)
       (ap (λ (k : ℕ). suc (records_in command size 0 (drop k t))) next)
 
   -- a run ends inside, or its last record reaches less than a record past the end

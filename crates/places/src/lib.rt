@@ -11,6 +11,12 @@ ghost use Rattle.model.specs.Tape.{records_in, records_at, string_codec, layer_p
 ghost use Rattle.places.specs.Runs.{eight_at, Counted, capped};
 ghost use Rattle.places.specs.Found.{layer_runs, add_layer, Small, tallied, list_runs, frame_holds, found_by, places_of};
 
+use numbers::{
+    CONTAINER_SIZE, CONTENT_SIZE, DIAGNOSTIC_SIZE, HEAD_SIZE, NODE_SIZE, PAIR_SIZE, SEGMENT_SIZE,
+    STRING_SIZE,
+};
+use span::{NormalizedOffset, SourceOffset};
+
 // A run of records of one kind: where the first stands, and how many they are.
 #[derive(Clone, Copy)]
 pub struct Run {
@@ -46,10 +52,11 @@ pub struct Tally {
     pub end: usize,
 }
 
+// Where everything stands: where each text ends, how many layers and pool items, the four lists.
 #[derive(Clone, Copy)]
 pub struct Places {
-    pub text: u32,
-    pub normalized: u32,
+    pub text: SourceOffset,
+    pub normalized: NormalizedOffset,
     pub layers: usize,
     pub strings: usize,
     pub contents: usize,
@@ -129,7 +136,7 @@ pub fn strings_length(tape: &[u8], at: usize, count: usize, room: usize) -> usiz
 {
     let mut total = 0;
     for i in 0..count {
-        let n = wire::u32_or_zero(tape, at + 5 * i + 1) as usize;
+        let n = wire::u32_or_zero(tape, at + STRING_SIZE * i + 1) as usize;
         total = (total + n).min(room + 1);
     }
     total
@@ -141,11 +148,11 @@ pub fn next_layer(tape: &[u8], at: usize) -> LayerRuns
     requires { at < length tape.now }
     ensures { result ≡ layer_runs (layer_places tape.now at) }
 {
-    let strings = count_at(tape, at + 1, 3, 5);
-    let contents_at = at + 1 + 5 * strings;
-    let contents = count_at(tape, contents_at, 4, 10);
-    let segments_at = contents_at + 10 * contents;
-    let segments = count_at(tape, segments_at, 5, 37);
+    let strings = count_at(tape, at + 1, 3, STRING_SIZE);
+    let contents_at = at + 1 + STRING_SIZE * strings;
+    let contents = count_at(tape, contents_at, 4, CONTENT_SIZE);
+    let segments_at = contents_at + CONTENT_SIZE * contents;
+    let segments = count_at(tape, segments_at, 5, SEGMENT_SIZE);
     LayerRuns {
         strings: Run {
             at: at + 1,
@@ -159,7 +166,7 @@ pub fn next_layer(tape: &[u8], at: usize) -> LayerRuns
             at: segments_at,
             count: segments,
         },
-        end: segments_at + 37 * segments,
+        end: segments_at + SEGMENT_SIZE * segments,
     }
 }
 
@@ -190,7 +197,7 @@ fn all_layers(tape: &[u8], room: usize) -> Tally
         contents: 0,
         segments: 0,
         bytes: 0,
-        end: 9,
+        end: HEAD_SIZE,
     };
     // no `for`: each layer says where the next one stands
     while wire::byte_at(tape, s.end) == 2 {
@@ -204,13 +211,13 @@ pub fn lists_at(tape: &[u8], at: usize) -> ListRuns
     requires { at ≤ length tape.now + 36 }
     ensures { result ≡ list_runs tape.now at }
 {
-    let nodes = count_at(tape, at, 6, 49);
-    let pairs_at = at + 49 * nodes;
-    let pairs = count_at(tape, pairs_at, 7, 18);
-    let containers_at = pairs_at + 18 * pairs;
-    let containers = count_at(tape, containers_at, 8, 13);
-    let diagnostics_at = containers_at + 13 * containers;
-    let diagnostics = count_at(tape, diagnostics_at, 9, 18);
+    let nodes = count_at(tape, at, 6, NODE_SIZE);
+    let pairs_at = at + NODE_SIZE * nodes;
+    let pairs = count_at(tape, pairs_at, 7, PAIR_SIZE);
+    let containers_at = pairs_at + PAIR_SIZE * pairs;
+    let containers = count_at(tape, containers_at, 8, CONTAINER_SIZE);
+    let diagnostics_at = containers_at + CONTAINER_SIZE * containers;
+    let diagnostics = count_at(tape, diagnostics_at, 9, DIAGNOSTIC_SIZE);
     ListRuns {
         nodes: Run { at, count: nodes },
         pairs: Run {
@@ -225,7 +232,7 @@ pub fn lists_at(tape: &[u8], at: usize) -> ListRuns
             at: diagnostics_at,
             count: diagnostics,
         },
-        end: diagnostics_at + 18 * diagnostics,
+        end: diagnostics_at + DIAGNOSTIC_SIZE * diagnostics,
     }
 }
 
@@ -248,8 +255,8 @@ fn found_places(tape: &[u8], s: Tally, l: ListRuns) -> Places
     ensures { result ≡ found_by tape.now s l }
 {
     Places {
-        text: wire::u32_or_zero(tape, 1),
-        normalized: wire::u32_or_zero(tape, 5),
+        text: SourceOffset(wire::u32_or_zero(tape, 1)),
+        normalized: NormalizedOffset(wire::u32_or_zero(tape, 5)),
         layers: s.count,
         strings: s.strings,
         contents: s.contents,

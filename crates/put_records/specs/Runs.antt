@@ -1,15 +1,15 @@
 -- Records that stand one behind the other, read and written: one more, a first part, and one run behind another.
-use Rattle.std.specs.Prelude.{◌≡◌, refl, true, ◌&&◌}
+use Rattle.std.specs.Prelude.{◌≡◌, refl, true}
 use Rattle.std.proofs.Common.{sym, ◌∙◌}
 use Rattle.std.proofs.Math.Path.{ap}
-use Prim.Native.Nat.{ℕ, zero, suc, ◌+◌, ◌*◌, ◌≤◌, ◌<◌}
+use Prim.Native.Nat.{ℕ, zero, suc, ◌+◌, ◌*◌, ◌≤◌}
 use native.Mathlib.Omega.{arith}
-use mathlib.Core.List.{List, [], ◌∷◌, ◌++◌, append_assoc, flatten}
+use mathlib.Core.List.{List, [], ◌∷◌, ◌++◌}
 use Rattle.model.specs.Lists.{all, tabulate}
-use Rattle.model.specs.Tape.{Codec, record_size, record_at, records_at, record_bytes, records_bytes}
-use Rattle.wire.specs.Loops.{tabulate_last}
-use Rattle.laws.specs.Lists.{both}
-use Rattle.laws.specs.Keep.{all_append_is}
+use Rattle.model.specs.Tape.{Codec, record_size, record_at, records_at}
+use Rattle.facts.specs.Truth.{both}
+use Rattle.facts.specs.Lists.{tabulate_last}
+use Rattle.facts.specs.Keep.{all_append_is}
 
 -- a first part of a list
 pub record Parts {A : Type 0} (xs whole : List A) : Type 0 where
@@ -36,15 +36,3 @@ module _ {A : Type 0} (k : Codec A) (t : List ℕ) (at : ℕ) where
   pub records_parts : (i n : ℕ) → i ≤ n → Parts (records_at k t at i) (records_at k t at n)
   unfolding records_at
   records_parts i n h = tabulate_parts i n (λ (j : ℕ). record_at k t (at + record_size k * j)) h
-
-  pub records_in_lem : (p : A → _) (i n : ℕ) → i < n → all p (records_at k t at n) ≡ true → p (record_at k t (at + record_size k * i)) ≡ true
-  records_in_lem p i n h a =
-      let x = record_at k t (at + record_size k * i) in
-      let b : all p (records_at k t at (i + 1)) ≡ true = all_first p (records_parts (i + 1) n (omega arith)) a in
-      let d : (all p (records_at k t at i) && all p (x ∷ [])) ≡ true = sym (all_append_is p (records_at k t at i) (x ∷ [])) ∙ sym (ap (all p) (records_more i)) ∙ b in
-      (both (p x) true (both (all p (records_at k t at i)) (all p (x ∷ [])) d).1).0
-
-pub bytes_append : {A : Type 0} (k : Codec A) (xs ys : List A) → records_bytes k (xs ++ ys) ≡ records_bytes k xs ++ records_bytes k ys
-unfolding records_bytes flatten
-bytes_append k [] ys = refl
-bytes_append k (x ∷ xs) ys = ap (λ (l : List ℕ). record_bytes k x ++ l) (bytes_append k xs ys) ∙ sym (append_assoc (record_bytes k x) (records_bytes k xs) (records_bytes k ys))

@@ -3,17 +3,23 @@ use Rattle.std.specs.Prelude.{◌≡◌, refl, ℕ, zero, suc, ◌≤◌, ◌+�
 use lib.ListN.{length-append}
 use Rattle.std.proofs.Common.{sym, ap, ◌∙◌, arith, append-nil, append_assoc}
 use Rattle.model.specs.Bytes.{word_bytes}
-use Rattle.model.specs.Types.{Body, Segment, SourceNode}
-use Rattle.model.specs.Tape.{record_bytes, operand_bytes, content_codec, segment_codec, node_codec}
+use Rattle.model.specs.Offset.{Span}
+use Rattle.model.specs.Types.{Body, Segment, SourceNode, PairLink, ContainerPair, Diagnostic}
+use Rattle.model.specs.Tape.{record_bytes, operand_bytes, content_codec, segment_codec, node_codec, pair_codec, container_codec, diagnostic_codec}
+use Rattle.facts.specs.Words.{word_length}
 use Rattle.wire.specs.Overwrite.{overwrite, Wrote, wrote_next}
 
 -- the bytes of a body's words
 unfoldable pub words_bytes : List ℕ → List ℕ
 words_bytes ws = word_bytes (get_or ws 0 0) ++ (word_bytes (get_or ws 1 0) ++ (word_bytes (get_or ws 2 0) ++ (word_bytes (get_or ws 3 0) ++ (word_bytes (get_or ws 4 0) ++ word_bytes (get_or ws 5 0)))))
 
-pub length_word : (n : ℕ) → length (word_bytes n) ≡ 4
-unfolding word_bytes
-length_word n = refl
+-- the bytes of a span
+unfoldable pub span_bytes : Span → List ℕ
+span_bytes s = word_bytes s.start ++ word_bytes s.end
+
+pub length_span : (s : Span) → length (span_bytes s) ≡ 8
+unfolding span_bytes word_bytes
+length_span s = refl
 
 digit : (x y k : ℕ) → x ≡ 256 * k + y → y % 256 ≡ x % 256
 digit x y k e = omega (arith, e)
@@ -42,14 +48,14 @@ bytes_until ws (suc i) = bytes_until ws i ++ word_bytes (get_or ws i 0)
 pub length_until : (ws : List ℕ) (i : ℕ) → length (bytes_until ws i) ≡ 4 * i
 unfolding bytes_until
 length_until ws zero = omega arith
-length_until ws (suc i) = length-append (bytes_until ws i) (word_bytes (get_or ws i 0)) ∙ omega (arith, length_until ws i, length_word (get_or ws i 0))
+length_until ws (suc i) = length-append (bytes_until ws i) (word_bytes (get_or ws i 0)) ∙ omega (arith, length_until ws i, word_length (get_or ws i 0))
 
 -- one word more
 pub until_more : {d l m : List ℕ} {at : ℕ} (ws : List ℕ) (i : ℕ) → Wrote d at (bytes_until ws i) l → m ≡ overwrite l (at + 4 * i) (word_bytes (get_or ws i 0))
     → at + 4 * (i + 1) ≤ length d → Wrote d at (bytes_until ws (i + 1)) m
 unfolding bytes_until
 until_more {at = at} ws i w e h =
-    let long = length_word (get_or ws i 0) in
+    let long = word_length (get_or ws i 0) in
     let next : i + 1 ≡ suc i = omega arith in
     rw next (wrote_next w (at + 4 * i) (word_bytes (get_or ws i 0)) e (omega (arith, length_until ws i)) (omega (arith, h, long)))
 
@@ -108,21 +114,39 @@ segment_written d l at s h w =
     w.is ∙ ap (overwrite d at) (segment_six s.tag s.level s.body
     ∙ ap (λ (b : Body). record_bytes segment_codec (record { tag = s.tag; level = s.level; body = b })) (sym (with_six s.body h)))
 
-node_six : (class inline start end offset : ℕ) (b : Body) → ((((((6 ∷ []) ++ (class ∷ [])) ++ (inline ∷ [])) ++ word_bytes start) ++ word_bytes end) ++ word_bytes offset) ++ body_bytes b
+node_six : (class inline offset : ℕ) (span : Span) (b : Body) → (((((6 ∷ []) ++ (class ∷ [])) ++ (inline ∷ [])) ++ span_bytes span) ++ word_bytes offset) ++ body_bytes b
     ≡ record_bytes node_codec (record {
       class = class;
       inline = inline;
-      source_span = record { start = start; end = end };
+      source_span = span;
       normalized_offset = offset;
       body = record { kind = b.kind; tag = b.tag; plain1 = b.plain1; plain2 = b.plain2; words = six_of b.words };
     })
-unfolding record_bytes operand_bytes node_codec six_of words_bytes
-node_six class inline start end offset b =
-    body_behind ((((((6 ∷ []) ++ (class ∷ [])) ++ (inline ∷ [])) ++ word_bytes start) ++ word_bytes end) ++ word_bytes offset) b ∙ simp (append_assoc, append-nil)
+unfolding record_bytes operand_bytes node_codec six_of words_bytes span_bytes
+node_six class inline offset span b =
+    body_behind (((((6 ∷ []) ++ (class ∷ [])) ++ (inline ∷ [])) ++ span_bytes span) ++ word_bytes offset) b ∙ simp (append_assoc, append-nil)
 
 pub node_written : (d l : List ℕ) (at : ℕ) (n : SourceNode) → length n.body.words ≡ 6
-    → Wrote d at ((((((((6 ∷ []) ++ (n.class ∷ [])) ++ (n.inline ∷ [])) ++ word_bytes n.source_span.start) ++ word_bytes n.source_span.end) ++ word_bytes n.normalized_offset)) ++ body_bytes n.body) l
+    → Wrote d at ((((((6 ∷ []) ++ (n.class ∷ [])) ++ (n.inline ∷ [])) ++ span_bytes n.source_span) ++ word_bytes n.normalized_offset) ++ body_bytes n.body) l
     → l ≡ overwrite d at (record_bytes node_codec n)
 node_written d l at n h w =
-    w.is ∙ ap (overwrite d at) (node_six n.class n.inline n.source_span.start n.source_span.end n.normalized_offset n.body
+    w.is ∙ ap (overwrite d at) (node_six n.class n.inline n.normalized_offset n.source_span n.body
     ∙ ap (λ (b : Body). record_bytes node_codec (record { class = n.class; inline = n.inline; source_span = n.source_span; normalized_offset = n.normalized_offset; body = b })) (sym (with_six n.body h)))
+
+-- ---- what has none
+
+pub pair_written : (d l : List ℕ) (at : ℕ) (p : PairLink) → Wrote d at ((((7 ∷ []) ++ (p.kind ∷ [])) ++ span_bytes p.opening) ++ span_bytes p.closing) l
+    → l ≡ overwrite d at (record_bytes pair_codec p)
+unfolding record_bytes operand_bytes pair_codec span_bytes
+pair_written d l at p w = w.is ∙ ap (overwrite d at) (simp (append_assoc, append-nil))
+
+pub container_written : (d l : List ℕ) (at : ℕ) (c : ContainerPair) → Wrote d at ((((8 ∷ []) ++ word_bytes c.plain) ++ word_bytes c.opening) ++ word_bytes c.closing) l
+    → l ≡ overwrite d at (record_bytes container_codec c)
+unfolding record_bytes operand_bytes container_codec
+container_written d l at c w = w.is ∙ ap (overwrite d at) (simp (append_assoc, append-nil))
+
+pub diagnostic_written : (d l : List ℕ) (at : ℕ) (x : Diagnostic)
+    → Wrote d at (((((9 ∷ []) ++ (x.kind ∷ [])) ++ word_bytes x.code_rank) ++ span_bytes x.span) ++ word_bytes x.plain) l
+    → l ≡ overwrite d at (record_bytes diagnostic_codec x)
+unfolding record_bytes operand_bytes diagnostic_codec span_bytes
+diagnostic_written d l at x w = w.is ∙ ap (overwrite d at) (simp (append_assoc, append-nil))

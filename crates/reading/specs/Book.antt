@@ -13,11 +13,11 @@ use Rattle.places.specs.Found.{found}
 use Rattle.passage.specs.Window.{ends_on_boundaries, cuts_window}
 
 module _ (t d : List ℕ) {p : Places} (e : p ≡ found t) where
-  pub text_found : take p.text d ≡ (book_at t (places t) d).sanitized
+  pub text_found : take p.text.0 d ≡ (book_at t (places t) d).sanitized
   unfolding book_at found
   text_found = rw e refl
 
-  pub normalized_found : part d p.text p.normalized ≡ (book_at t (places t) d).normalized
+  pub normalized_found : part d p.text.0 p.normalized.0 ≡ (book_at t (places t) d).normalized
   unfolding book_at found
   normalized_found = rw e refl
 

@@ -12,8 +12,7 @@ use Rattle.model.specs.Types.{SourceNode}
 use Rattle.model.specs.Tape.{record_at, records_at, node_codec}
 use Rattle.model.specs.WellFormed.{image_length, span_length, images, spans}
 use Rattle.model.specs.Merge.{normalized_offset}
-use Rattle.laws.specs.Lists.{all_keep}
-use Rattle.laws.specs.Keep.{all_keep_self}
+use Rattle.facts.specs.Keep.{all_keep, all_keep_self}
 use Rattle.laws.specs.Ordered.{take_while, keep_ends_by}
 use Rattle.laws.specs.Nodes.{ends_by, ordered_keep, spans_within}
 use Rattle.wire.specs.Loops.{Passed, sum_to, sum_more, sum_mono, sum_tabulate}

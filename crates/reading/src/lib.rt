@@ -3,7 +3,7 @@
 // offset stands in the normalized text. Numbers 12, 16 and 17 are crate `passage`, 15 is `introduces`.
 #![tactic(auto)]
 
-ghost use Rattle.std.specs.Prelude.{◌≡◌, ◌+◌, ◌-◌, ◌*◌, ◌≤◌, ◌<◌, length};
+ghost use Rattle.std.specs.Prelude.{◌≡◌, ◌+◌, ◌-◌, ◌*◌, ◌≤◌, ◌<◌, ◌^◌, length};
 ghost use Rattle.model.specs.Lists.{any};
 ghost use Rattle.model.specs.Tape.{record_at, records_at, node_codec, diagnostic_codec};
 ghost use Rattle.model.specs.Merge.{balanced_nodes, is_unclosed, is_mark_at, mark_at_empty_region, normalized_offset};
@@ -13,8 +13,9 @@ ghost use Rattle.reading.specs.Until.{Until};
 
 use bounds::Sums;
 use cuts::Depths;
+use numbers::{DIAGNOSTIC_SIZE, NODE_SIZE};
 use records::{UNCLOSED_BRACKET, UNMATCHED_CLOSE};
-use span::Span;
+use span::{NormalizedOffset, SourceOffset, Span};
 
 // That a run lies in its tape is asked at each function. `splice::Section` is a struct of tape, run and this fact, for records that go through
 // several functions of that crate; here a list is asked once, and its section would be made for one call.
@@ -26,7 +27,7 @@ pub fn balanced_nodes(tape: &[u8], nodes: places::Run) -> bool
 {
     let mut depths = Depths::NONE;
     for i in 0..nodes.count {
-        let p = nodes.at + 49 * i;
+        let p = nodes.at + NODE_SIZE * i;
         if depths.closes_unopened(tape, p) {
             return false;
         }
@@ -48,24 +49,24 @@ pub fn has_unclosed(tape: &[u8], diagnostics: places::Run) -> bool
     requires { diagnostics.at + 18 * diagnostics.count ≤ length tape.now }
     ensures { result ≡ any is_unclosed (records_at diagnostic_codec tape.now diagnostics.at diagnostics.count) }
 {
-    (0..diagnostics.count).any(|i| is_unclosed(tape, diagnostics.at + 18 * i))
+    (0..diagnostics.count).any(|i| is_unclosed(tape, diagnostics.at + DIAGNOSTIC_SIZE * i))
 }
 
 // Wish 5. One that has a width and starts or ends there is no mark.
 #[tactic(auto, using(std::proofs::lemmas::Bool::Decides::nat_tests), unfolding(model::specs::Merge::is_mark_at))]
-fn is_mark_at(tape: &[u8], at: usize, place: u32) -> bool
+fn is_mark_at(tape: &[u8], at: usize, place: SourceOffset) -> bool
     requires { at + 18 ≤ length tape.now }
-    ensures { result ≡ is_mark_at place (record_at diagnostic_codec tape.now at) }
+    ensures { result ≡ is_mark_at place.0 (record_at diagnostic_codec tape.now at) }
 {
     let d = records::diagnostic_at(tape, at);
-    d.start == place && d.end == place
+    d.span.start == place && d.span.end == place
 }
 
-fn has_mark_at(tape: &[u8], diagnostics: places::Run, place: u32) -> bool
+fn has_mark_at(tape: &[u8], diagnostics: places::Run, place: SourceOffset) -> bool
     requires { diagnostics.at + 18 * diagnostics.count ≤ length tape.now }
-    ensures { result ≡ any (is_mark_at place) (records_at diagnostic_codec tape.now diagnostics.at diagnostics.count) }
+    ensures { result ≡ any (is_mark_at place.0) (records_at diagnostic_codec tape.now diagnostics.at diagnostics.count) }
 {
-    (0..diagnostics.count).any(|i| is_mark_at(tape, diagnostics.at + 18 * i, place))
+    (0..diagnostics.count).any(|i| is_mark_at(tape, diagnostics.at + DIAGNOSTIC_SIZE * i, place))
 }
 
 // Number 14, wish 5: of the old book's diagnostics, a mark at an empty region. Such a region lies at the text's end; for any other no diagnostic
@@ -80,29 +81,32 @@ pub fn mark_at_empty_region(tape: &[u8], diagnostics: places::Run, region: Span)
 
 // How many nodes end at or before an offset: they are the first ones. One after the other: whoever asks walks over those nodes all the
 // same, so that a bisection would gain little.
-pub fn nodes_until(tape: &[u8], nodes: places::Run, offset: u32) -> usize
+pub fn nodes_until(tape: &[u8], nodes: places::Run, offset: SourceOffset) -> usize
     requires count_in_bounds { nodes.at + 49 * nodes.count ≤ length tape.now }
     requires in_order { InOrder (records_at node_codec tape.now nodes.at nodes.count) }
-    ensures { Until tape.now nodes.at nodes.count offset result }
+    ensures { Until tape.now nodes.at nodes.count offset.0 result }
 {
     (0..nodes.count)
-        .find(|&i| offset < records::node_end(tape, nodes.at + 49 * i))
+        .find(|&i| offset < records::node_end(tape, nodes.at + NODE_SIZE * i))
         .unwrap_or(nodes.count)
 }
 
-// An offset and the drift of the nodes before it.
-fn drifted(offset: u32, before: Sums) -> usize
-    requires { (before.images < 9223372036854775808) × (before.spans < 9223372036854775808) }
-    ensures { result ≡ offset + before.images - before.spans }
+// An offset and the drift of the nodes before it. Source offsets and normalized offsets are two measures of two texts, and only here does one
+// become the other.
+fn drifted(offset: SourceOffset, before: Sums) -> NormalizedOffset
+    requires sums_bound { (before.images < 2 ^ 63) × (before.spans < 2 ^ 63) }
+    requires fits { offset.0 + before.images - before.spans < 2 ^ 32 }
+    ensures { result.0 ≡ offset.0 + before.images - before.spans }
 {
-    (u64::from(offset) + before.images).saturating_sub(before.spans) as usize
+    NormalizedOffset((u64::from(offset.0) + before.images).saturating_sub(before.spans) as u32)
 }
 
-// `normalized_offset`: the place of a source offset in the normalized text.
-pub fn normalized_offset(tape: &[u8], nodes: places::Run, offset: u32) -> usize
+// `normalized_offset`: the place of a source offset in the normalized text, which is asked of a cut.
+pub fn normalized_offset(tape: &[u8], nodes: places::Run, offset: SourceOffset) -> NormalizedOffset
     requires count_in_bounds { nodes.at + 49 * nodes.count ≤ length tape.now }
     requires in_order { InOrder (records_at node_codec tape.now nodes.at nodes.count) }
-    ensures { result ≡ normalized_offset (records_at node_codec tape.now nodes.at nodes.count) offset }
+    requires fits { normalized_offset (records_at node_codec tape.now nodes.at nodes.count) offset.0 < 2 ^ 32 }
+    ensures { result.0 ≡ normalized_offset (records_at node_codec tape.now nodes.at nodes.count) offset.0 }
 {
     let n = nodes_until(tape, nodes, offset);
     let mut before = Sums {
@@ -110,7 +114,7 @@ pub fn normalized_offset(tape: &[u8], nodes: places::Run, offset: u32) -> usize
         spans: 0,
     };
     for i in 0..n {
-        let p = nodes.at + 49 * i;
+        let p = nodes.at + NODE_SIZE * i;
         before.images += bounds::image_length(tape, p);
         before.spans += bounds::span_length(tape, p);
     }

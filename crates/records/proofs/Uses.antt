@@ -1,15 +1,14 @@
 -- The code's uses follow the rule of model's table of fields: computed for each kind and tag.
 use Rattle.std.specs.Prelude.{ℕ, suc, zero, ◌+◌, ◌*◌, ◌/◌, ◌%◌, ◌<◌, ◌≤◌, ◌≡◌, Bool, not, ◌&&◌, ◌||◌, List, [], length, get_or, ltb, eqb}
 use native.Mathlib.Omega.{arith}
-use Rattle.std.proofs.Math.Nat.{zero-div}
 use Rattle.std.proofs.Math.Path.{refl}
 use Rattle.std.proofs.Common.{sym, ap, ◌∙◌, ltb-true, ltb-false, eqb-true, ne_eqb}
 use Rattle.std.proofs.Math.Bool.{true, false, cond, or-true, or-false}
 use Rattle.std.proofs.Math.ListN.{get_or-eq_default}
 use Rattle.model.specs.Lists.{any}
 use Rattle.model.specs.Tape.{field_table, uses_word, unused_zero}
-use Rattle.laws.specs.Lists.{both}
-use Rattle.wire.specs.Loops.{by_bool, all_up_to, all_at}
+use Rattle.facts.specs.Truth.{both, by_bool}
+use Rattle.wire.specs.Loops.{all_up_to, all_at, all_up_to_same}
 use Rattle.records.specs.Uses.{use_of, use_in, fields_for, word_use, word_fits, words_all, format_uses, gaiji_uses, image_uses, other_uses, uses_of, use_among, variant_of, few, variant_small, same_use, uses_word_lem, use_fits}
 
 -- word i of kind n / 4 with tag n % 4, and that the words behind an unused one are unused
@@ -104,16 +103,11 @@ module _ (used : Bool) (k t i w : ℕ) (h : i < 6) where
       by_used true = rw (uses_right k t i h) (sym (uses_word_lem i (get_or (field_table t) k [])))
       by_used false = refl
 
-all_same : (n : ℕ) (P Q : ℕ → Bool) → ((k : ℕ) → k < n → P k ≡ Q k) → all_up_to n P ≡ all_up_to n Q
-unfolding all_up_to
-all_same zero P Q e = refl
-all_same (suc n) P Q e = rw (all_same n P Q (λ k h. e k (omega arith)), e n (omega arith)) refl
-
 -- the six words of a body, by the code's uses
 pub words_fit_all : (used : Bool) (k t : ℕ) (ws : List ℕ) → length ws ≡ 6
     → all_up_to 6 (λ (i : ℕ). use_fits used (use_among (uses_of k t) i) (get_or ws i 0)) ≡ unused_zero (fields_for used k t) 0 ws
 words_fit_all used k t ws six =
     let fs = fields_for used k t in
-    all_same 6 (λ (i : ℕ). use_fits used (use_among (uses_of k t) i) (get_or ws i 0)) (λ (i : ℕ). word_fits fs i (get_or ws i 0)) (λ i h. fits_same used k t i (get_or ws i 0) h)
+    all_up_to_same 6 (λ (i : ℕ). use_fits used (use_among (uses_of k t) i) (get_or ws i 0)) (λ (i : ℕ). word_fits fs i (get_or ws i 0)) (λ i h. fits_same used k t i (get_or ws i 0) h)
     ∙ ap (λ (n : ℕ). all_up_to n (λ (i : ℕ). word_fits fs i (get_or ws i 0))) (sym six)
     ∙ words_all fs ws

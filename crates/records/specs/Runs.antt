@@ -1,5 +1,5 @@
 -- A test of every record of a run, one law for every kind and every test.
-use Prim.Native.Nat.{ℕ, zero, suc, ◌+◌, ◌*◌, ◌≤◌, ◌<◌}
+use Prim.Native.Nat.{ℕ, suc, ◌+◌, ◌*◌, ◌≤◌, ◌<◌}
 use Rattle.std.proofs.Common.{arith, add-zero, mul-suc, ◌∙◌}
 use Rattle.std.proofs.Math.Nat.{mul-zero, mul-le-mul_left}
 use Rattle.std.specs.Prelude.{◌≡◌, Bool, true, false}
@@ -9,7 +9,6 @@ use Rattle.model.specs.Lists.{all, any, tabulate}
 use Rattle.model.specs.Tape.{Codec, record_size, record_at, records_at}
 use Rattle.wire.specs.Loops.{all_up_to, Passed, passed_more, all_passed, all_failed, all_at, all_tabulate}
 use Rattle.wire.specs.Loops.{any_up_to, Missed, missed_more, any_missed, any_found, any_tabulate}
-use Rattle.std.proofs.Math.ListN.{length}
 
 module _ {A : Type 0} (c : Codec A) (p : A → Bool) (t : List ℕ) (at : ℕ) where
   -- the test of the record numbered i of the run from `at` on
@@ -84,14 +83,6 @@ module _ {A : Type 0} (c : Codec A) (t : List ℕ) where
   pub run_none : (p : ℕ) → records_at c t p 0 ≡ []
   unfolding records_at
   run_none p = refl
-
-  pub run_length : (p n : ℕ) → length (records_at c t p n) ≡ n
-  unfolding records_at
-  run_length p n = tabulate_length n (λ (i : ℕ). record_at c t (p + record_size c * i))
-    where
-      tabulate_length : (n : ℕ) (f : ℕ → A) → length (tabulate n f) ≡ n
-      tabulate_length zero f = refl
-      tabulate_length (suc n) f = ap suc (tabulate_length n (λ i. f (suc i)))
 
 -- what a passed test says of one record
 pub run_at : {A : Type 0} (c : Codec A) (p : A → Bool) (t : List ℕ) (at n i : ℕ) → all p (records_at c t at n) ≡ true → i < n → p (record_at c t (at + record_size c * i)) ≡ true

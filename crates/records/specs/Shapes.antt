@@ -3,9 +3,9 @@ use Rattle.std.specs.Prelude.{ℕ, ◌≡◌, Bool, true, false, cond, ◌&&◌,
 use Rattle.std.proofs.Math.Path.{refl}
 use Rattle.std.proofs.Math.Bool.{or-false}
 use borrow.Author.Tests.{eqb-true, ltb-true, ltb-false, le-leb, lt-leb}
-use Rattle.wire.specs.Loops.{by_bool}
 use Rattle.model.specs.Types.{Segment, SourceNode}
 use Rattle.model.specs.Tape.{fields_of, node_fields, body_shape, segment_shape, node_shape}
+use Rattle.facts.specs.Truth.{by_bool}
 use Rattle.records.specs.Uses.{fields_for}
 
 -- ---- segments

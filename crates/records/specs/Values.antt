@@ -2,9 +2,11 @@
 use Rattle.std.specs.Prelude.{ℕ, zero, suc, ◌+◌, ◌*◌, ◌<◌, ◌≡◌, refl, List, [], ◌∷◌}
 use Rattle.std.proofs.Common.{arith, add_assoc, ap, ◌∙◌}
 use Rattle.model.specs.Bytes.{byte_at, word_at}
+use Rattle.model.specs.Offset.{Span}
 use Rattle.model.specs.Types.{Body, Content, Segment, SourceNode, PairLink, ContainerPair, Diagnostic}
 use Rattle.model.specs.WellFormed.{word_of}
-use Rattle.model.specs.Tape.{record_at, operands_at, segment_codec, node_codec}
+use Rattle.model.specs.Tape.{record_at, operands_at, segment_codec, node_codec, pair_codec, diagnostic_codec}
+use Rattle.span.specs.Values.{span_of}
 use Rattle.records.specs.declared.Body.{Body as BodyRead}
 use Rattle.records.specs.declared.Content.{Content as ContentRead}
 use Rattle.records.specs.declared.Segment.{Segment as SegmentRead}
@@ -26,23 +28,23 @@ abbrev pub source_node_of : SourceNodeRead → SourceNode
 source_node_of n = record {
   class = n.class;
   inline = n.inline;
-  source_span = record { start = n.start; end = n.end };
-  normalized_offset = n.offset;
+  source_span = span_of n.source_span;
+  normalized_offset = n.normalized_offset.0;
   body = body_of n.body;
 }
 
 abbrev pub pair_link_of : PairLinkRead → PairLink
-pair_link_of p = record {
-  kind = p.kind;
-  opening = record { start = p.open_start; end = p.open_end };
-  closing = record { start = p.close_start; end = p.close_end };
-}
+pair_link_of p = record { kind = p.kind; opening = span_of p.opening; closing = span_of p.closing }
 
 abbrev pub container_pair_of : ContainerPairRead → ContainerPair
-container_pair_of c = record { plain = c.plain; opening = c.opening; closing = c.closing }
+container_pair_of c = record { plain = c.plain; opening = c.opening.0; closing = c.closing.0 }
 
 abbrev pub diagnostic_of : DiagnosticRead → Diagnostic
-diagnostic_of d = record { kind = d.kind; code_rank = d.rank; span = record { start = d.start; end = d.end }; plain = d.plain }
+diagnostic_of d = record { kind = d.kind; code_rank = d.rank; span = span_of d.span; plain = d.plain }
+
+-- Section 4. The span whose words stand at p.
+abbrev pub span_at : List ℕ → ℕ → Span
+span_at t p = record { start = word_at t p; end = word_at t (p + 4) }
 
 -- Section 4. The body whose first byte stands at p.
 unfoldable pub body_at : List ℕ → ℕ → Body
@@ -68,6 +70,23 @@ word_place t p (suc (suc (suc (suc zero)))) h = ap (word_at t) (same_place p 16 
 word_place t p (suc (suc (suc (suc (suc zero))))) h = ap (word_at t) (same_place p 20 30 refl)
 word_place t p (suc (suc (suc (suc (suc (suc i)))))) h = absurd (omega arith)
 
+-- where the spans of records stand
+pub node_span : (t : List ℕ) (p : ℕ) → span_at t (p + 3) ≡ (record_at node_codec t p).source_span
+unfolding record_at operands_at node_codec
+node_span t p = simp add_assoc
+
+pub opening_span : (t : List ℕ) (p : ℕ) → span_at t (p + 2) ≡ (record_at pair_codec t p).opening
+unfolding record_at operands_at pair_codec
+opening_span t p = simp add_assoc
+
+pub closing_span : (t : List ℕ) (p : ℕ) → span_at t (p + 10) ≡ (record_at pair_codec t p).closing
+unfolding record_at operands_at pair_codec
+closing_span t p = simp add_assoc
+
+pub diagnostic_span : (t : List ℕ) (p : ℕ) → span_at t (p + 6) ≡ (record_at diagnostic_codec t p).span
+unfolding record_at operands_at diagnostic_codec
+diagnostic_span t p = simp add_assoc
+
 pub segment_body : (t : List ℕ) (p : ℕ) → body_at t (p + 3) ≡ (record_at segment_codec t p).body
 unfolding body_at record_at operands_at segment_codec
 segment_body t p = simp add_assoc
@@ -82,21 +101,23 @@ pub segment_read : (t : List ℕ) (p : ℕ) (b : Body) → b ≡ body_at t (p + 
 unfolding record_at operands_at segment_codec
 segment_read t p b e = let s : b ≡ (record_at segment_codec t p).body = e ∙ segment_body t p in λ i. record { tag = byte_at t (p + 1); level = byte_at t (p + 2); body = s i }
 
-pub node_read : (t : List ℕ) (p : ℕ) (b : Body) → b ≡ body_at t (p + 15)
+pub node_read : (t : List ℕ) (p o : ℕ) (s : Span) (b : Body) → s ≡ span_at t (p + 3) → o ≡ (record_at node_codec t p).normalized_offset → b ≡ body_at t (p + 15)
     → record {
       class = byte_at t (p + 1);
       inline = byte_at t (p + 2);
-      source_span = record { start = word_at t (p + 3); end = word_at t (p + 7) };
-      normalized_offset = word_at t (p + 11);
+      source_span = s;
+      normalized_offset = o;
       body = b;
     } ≡ record_at node_codec t p
 unfolding record_at operands_at node_codec
-node_read t p b e =
-    let s : b ≡ (record_at node_codec t p).body = e ∙ node_body t p in
+node_read t p o s b q r e =
+    let n = record_at node_codec t p in
+    let q₁ : s ≡ n.source_span = q ∙ node_span t p in
+    let e₁ : b ≡ n.body = e ∙ node_body t p in
     λ i. record {
       class = byte_at t (p + 1);
       inline = byte_at t (p + 2);
-      source_span = record { start = word_at t (p + 3); end = word_at t (p + 7) };
-      normalized_offset = word_at t (p + 11);
-      body = s i;
+      source_span = q₁ i;
+      normalized_offset = r i;
+      body = e₁ i;
     }

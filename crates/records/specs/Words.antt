@@ -9,8 +9,8 @@ use Rattle.std.proofs.Math.Dec.{eqb}
 use borrow.Author.Tests.{eq-eqb, ne_eqb, eqb-true, ltb-true, ltb-false}
 use Rattle.model.specs.Lists.{all}
 use Rattle.model.specs.Tape.{Field, Field.str, Field.opt_str, Field.content_range, Field.seg_range, field_table}
-use Rattle.laws.specs.Lists.{both}
-use Rattle.wire.specs.Loops.{by_bool, all_up_to, all_at}
+use Rattle.facts.specs.Truth.{both, by_bool}
+use Rattle.wire.specs.Loops.{all_up_to, all_at, all_up_to_same}
 use Rattle.records.specs.Uses.{use_of, use_in, word_use, variant_of, variant_small, same_fields}
 
 -- the test of the field whose first word is i, by the word's use; other words pass
@@ -31,18 +31,13 @@ apart (f ∷ fs) = free f fs && apart fs
 
 -- ---- one index more
 
-all_same : (n : ℕ) (P Q : ℕ → Bool) → ((i : ℕ) → i < n → P i ≡ Q i) → all_up_to n P ≡ all_up_to n Q
-unfolding all_up_to
-all_same zero P Q e = refl
-all_same (suc n) P Q e = ap₂ (λ (a b : Bool). a && b) (all_same n P Q (λ i h. e i (omega arith))) (e n (omega arith))
-
 one_more_lem : (n : ℕ) (P Q : ℕ → Bool) (j : ℕ) (x : Bool) → j < n → P j ≡ x → Q j ≡ true → ((i : ℕ) → (i ≡ j → ⊥) → P i ≡ Q i) → all_up_to n P ≡ (x && all_up_to n Q)
 unfolding all_up_to
 one_more_lem zero P Q j x h p q e = absurd (omega arith)
 one_more_lem (suc n) P Q j x h p q e =
     ⊎_elim
     (λ (s : j ≡ n).
-    let a : all_up_to n P ≡ all_up_to n Q = all_same n P Q (λ i b. e i (λ t. omega arith)) in
+    let a : all_up_to n P ≡ all_up_to n Q = all_up_to_same n P Q (λ i b. e i (λ t. omega arith)) in
     let b : P n ≡ x = ap P (sym s) ∙ p in
     let d : Q n ≡ true = ap Q (sym s) ∙ q in
     rw (a, b, d, and-true) (and_comm (all_up_to n Q) x))

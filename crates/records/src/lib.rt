@@ -12,11 +12,15 @@ ghost use Rattle.model.specs.Tape.{Codec, record_size, record_at, records_at, ta
 ghost use Rattle.model.specs.Tape.{content_codec, segment_codec, node_codec, pair_codec, container_codec, diagnostic_codec};
 ghost use Rattle.model.specs.Tape.{content_shape, segment_shape, node_shape, pair_shape, diagnostic_shape};
 ghost use Rattle.model.specs.WellFormed.{word_of};
+ghost use Rattle.span.specs.Values.{span_of};
 ghost use Rattle.records.specs.Values.{body_of, content_of, segment_of, source_node_of, pair_link_of, container_pair_of, diagnostic_of};
-ghost use Rattle.records.specs.Values.{body_at};
+ghost use Rattle.records.specs.Values.{body_at, span_at};
 ghost use Rattle.records.specs.Uses.{use_number, format_uses, gaiji_uses, image_uses, uses_of, word_use, fields_for, use_fits};
 ghost use Rattle.records.specs.Shapes.{segment_head, node_head};
 ghost use Rattle.records.specs.Sizes.{content_size, segment_size, node_size, pair_size, diagnostic_size};
+
+use numbers::{CONTENT_SIZE, DIAGNOSTIC_SIZE, NODE_SIZE, PAIR_SIZE, SEGMENT_SIZE};
+use span::{NormalizedOffset, PairKind, SourceOffset, Span};
 
 // The numbers of kinds, tags and classes that are asked for by name; the tables of uses and shapes below list them as document 01 does. They are bytes
 // of a tape, which may hold any other as well: an enum of them would have to be asked for at each byte before it could be matched.
@@ -60,9 +64,7 @@ pub const UNCLOSED_BRACKET: u8 = 2;
 
 pub const UNMATCHED_CLOSE: u8 = 3;
 
-// How many kinds of pairs there are, and of diagnostics.
-const PAIR_KINDS: u8 = 5;
-
+// How many kinds of diagnostics there are.
 const DIAGNOSTIC_KINDS: u8 = 5;
 
 // Section 4. A body: what a `Node` or a text holds.
@@ -89,39 +91,35 @@ pub struct Segment {
     pub body: Body,
 }
 
-// Starts and ends are fields of their own, here and below, as the record has its words; only number 6 asks whether they are a span.
 #[derive(Clone, Copy)]
 pub struct SourceNode {
     pub class: u8,
     pub inline: u8,
-    pub start: u32,
-    pub end: u32,
-    pub offset: u32,
+    pub source_span: Span,
+    pub normalized_offset: NormalizedOffset,
     pub body: Body,
 }
 
+// `open` and `close` in the Rust; `open` is a word of antt. The kind may be any byte: only the record's shape tells of `span::PairKind`.
 #[derive(Clone, Copy)]
 pub struct PairLink {
     pub kind: u8,
-    pub open_start: u32,
-    pub open_end: u32,
-    pub close_start: u32,
-    pub close_end: u32,
+    pub opening: Span,
+    pub closing: Span,
 }
 
 #[derive(Clone, Copy)]
 pub struct ContainerPair {
     pub plain: u32,
-    pub opening: u32,
-    pub closing: u32,
+    pub opening: NormalizedOffset,
+    pub closing: NormalizedOffset,
 }
 
 #[derive(Clone, Copy)]
 pub struct Diagnostic {
     pub kind: u8,
     pub rank: u32,
-    pub start: u32,
-    pub end: u32,
+    pub span: Span,
     pub plain: u32,
 }
 
@@ -156,6 +154,17 @@ pub fn body_word(tape: &[u8], at: usize, i: usize) -> u32
     wire::u32_at(tape, at + 10 + 4 * i)
 }
 
+// The span whose words stand at a place.
+fn span_at(tape: &[u8], at: usize) -> Span
+    requires { at + 8 ≤ length tape.now }
+    ensures { span_of result ≡ span_at tape.now at }
+{
+    Span {
+        start: SourceOffset(wire::u32_at(tape, at)),
+        end: SourceOffset(wire::u32_at(tape, at + 4)),
+    }
+}
+
 pub fn content_at(tape: &[u8], at: usize) -> Content
     requires { at + 10 ≤ length tape.now }
     ensures { content_of result ≡ record_at content_codec tape.now at }
@@ -187,9 +196,8 @@ pub fn node_at(tape: &[u8], at: usize) -> SourceNode
     SourceNode {
         class: tape[at + 1],
         inline: tape[at + 2],
-        start: wire::u32_at(tape, at + 3),
-        end: wire::u32_at(tape, at + 7),
-        offset: wire::u32_at(tape, at + 11),
+        source_span: span_at(tape, at + 3),
+        normalized_offset: node_offset(tape, at),
         body,
     }
 }
@@ -213,25 +221,25 @@ pub fn has_words(tape: &[u8], at: usize) -> bool
 
 // Single fields of a node, for the walks over all nodes. A record is named by its place, whose bound is the walk's: a struct of tape and place would
 // be made anew at each turn, and the bound be shown there. One function for all would take the field's place, and not say which field it reads.
-pub fn node_start(tape: &[u8], at: usize) -> u32
+pub fn node_start(tape: &[u8], at: usize) -> SourceOffset
     requires { at + 49 ≤ length tape.now }
-    ensures { result ≡ (record_at node_codec tape.now at).source_span.start }
+    ensures { result.0 ≡ (record_at node_codec tape.now at).source_span.start }
 {
-    wire::u32_at(tape, at + 3)
+    SourceOffset(wire::u32_at(tape, at + 3))
 }
 
-pub fn node_end(tape: &[u8], at: usize) -> u32
+pub fn node_end(tape: &[u8], at: usize) -> SourceOffset
     requires { at + 49 ≤ length tape.now }
-    ensures { result ≡ (record_at node_codec tape.now at).source_span.end }
+    ensures { result.0 ≡ (record_at node_codec tape.now at).source_span.end }
 {
-    wire::u32_at(tape, at + 7)
+    SourceOffset(wire::u32_at(tape, at + 7))
 }
 
-pub fn node_offset(tape: &[u8], at: usize) -> u32
+pub fn node_offset(tape: &[u8], at: usize) -> NormalizedOffset
     requires { at + 49 ≤ length tape.now }
-    ensures { result ≡ (record_at node_codec tape.now at).normalized_offset }
+    ensures { result.0 ≡ (record_at node_codec tape.now at).normalized_offset }
 {
-    wire::u32_at(tape, at + 11)
+    NormalizedOffset(wire::u32_at(tape, at + 11))
 }
 
 // A record of each other kind: each has its own fields, at places of their own.
@@ -242,10 +250,8 @@ pub fn pair_at(tape: &[u8], at: usize) -> PairLink
 {
     PairLink {
         kind: tape[at + 1],
-        open_start: wire::u32_at(tape, at + 2),
-        open_end: wire::u32_at(tape, at + 6),
-        close_start: wire::u32_at(tape, at + 10),
-        close_end: wire::u32_at(tape, at + 14),
+        opening: span_at(tape, at + 2),
+        closing: span_at(tape, at + 10),
     }
 }
 
@@ -255,8 +261,8 @@ pub fn container_at(tape: &[u8], at: usize) -> ContainerPair
 {
     ContainerPair {
         plain: wire::u32_at(tape, at + 1),
-        opening: wire::u32_at(tape, at + 5),
-        closing: wire::u32_at(tape, at + 9),
+        opening: NormalizedOffset(wire::u32_at(tape, at + 5)),
+        closing: NormalizedOffset(wire::u32_at(tape, at + 9)),
     }
 }
 
@@ -267,8 +273,7 @@ pub fn diagnostic_at(tape: &[u8], at: usize) -> Diagnostic
     Diagnostic {
         kind: tape[at + 1],
         rank: wire::u32_at(tape, at + 2),
-        start: wire::u32_at(tape, at + 6),
-        end: wire::u32_at(tape, at + 10),
+        span: span_at(tape, at + 6),
         plain: wire::u32_at(tape, at + 14),
     }
 }
@@ -479,12 +484,12 @@ pub fn node_shape(n: SourceNode) -> bool
     node_head(n.class, n.inline, n.body.kind) && body_shape(n.body, n.class < BARE)
 }
 
-// Section 4. Kinds 0..4; of diagnostics, below, too: two records, with a definition each in the model and one comparison.
-#[tactic(auto, unfolding(model::specs::Tape::pair_shape))]
+// Section 4. Kinds 0..4.
+#[tactic(auto, using(std::proofs::lemmas::Bool::Decides::nat_tests), unfolding(model::specs::Tape::pair_shape))]
 pub fn pair_shape(p: PairLink) -> bool
     ensures { result ≡ pair_shape (pair_link_of p) }
 {
-    p.kind < PAIR_KINDS
+    PairKind::try_from(p.kind).is_ok()
 }
 
 // Section 4. Kinds 0..4.
@@ -537,7 +542,7 @@ impl Shaped for Content {
 
     ghost SIZE = { 10 };
 
-    const SIZE: usize = 10;
+    const SIZE: usize = CONTENT_SIZE;
 
     ghost size = { content_size };
 
@@ -555,7 +560,7 @@ impl Shaped for Segment {
 
     ghost SIZE = { 37 };
 
-    const SIZE: usize = 37;
+    const SIZE: usize = SEGMENT_SIZE;
 
     ghost size = { segment_size };
 
@@ -573,7 +578,7 @@ impl Shaped for SourceNode {
 
     ghost SIZE = { 49 };
 
-    const SIZE: usize = 49;
+    const SIZE: usize = NODE_SIZE;
 
     ghost size = { node_size };
 
@@ -591,7 +596,7 @@ impl Shaped for PairLink {
 
     ghost SIZE = { 18 };
 
-    const SIZE: usize = 18;
+    const SIZE: usize = PAIR_SIZE;
 
     ghost size = { pair_size };
 
@@ -609,7 +614,7 @@ impl Shaped for Diagnostic {
 
     ghost SIZE = { 18 };
 
-    const SIZE: usize = 18;
+    const SIZE: usize = DIAGNOSTIC_SIZE;
 
     ghost size = { diagnostic_size };
 

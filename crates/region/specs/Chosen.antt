@@ -10,12 +10,12 @@ use Rattle.model.specs.Offset.{Span}
 use Rattle.model.specs.Types.{LexOutput}
 use Rattle.model.specs.Refusal.{Checked, Checked.refused, Checked.accepted, ◌>>=◌, refuse◌if◌}
 use Rattle.model.specs.Region.{Edit, edited, balanced_region, is_whole, has_ruby_format_dependency, chosen_region}
-use Rattle.wire.specs.Loops.{by_bool}
+use Rattle.facts.specs.Truth.{by_bool}
 use Rattle.edit.specs.Numbers.{within, edit_number, within_ok}
 
 -- Number 11, by the text's length.
-unfoldable pub whole_text : ℕ → ℕ → ℕ → Bool
-whole_text size start end = eqb start 0 && eqb end size
+unfoldable pub whole_text : ℕ → Span → Bool
+whole_text size r = eqb r.start 0 && eqb r.end size
 
 -- numbers 10 and 11, or the region
 unfoldable pub region_or : Bool → Bool → Span → Checked Span
@@ -69,14 +69,3 @@ module _ (b : LexOutput) (e : Edit) where
         pub chosen_region_lem : w ≡ false → chosen_region b e ≡ accepted (balanced_region b e)
         unfolding chosen_by region_or
         chosen_region_lem k = chosen_by_lem ∙ rw (← q, eq-eqb n 0 z, ← f, g, ← h, k) refl
-
--- ---- number 11
-
-module _ (size start end : ℕ) where
-  pub whole_later : (start ≡ 0 → ⊥) → false ≡ whole_text size start end
-  unfolding whole_text
-  whole_later h = rw (ne_eqb start 0 h) refl
-
-  pub whole_end : start ≡ 0 → eqb end size ≡ whole_text size start end
-  unfolding whole_text
-  whole_end h = rw (eq-eqb start 0 h) refl

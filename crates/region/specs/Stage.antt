@@ -1,86 +1,68 @@
--- `chosen_region`, for each of its returns: the code has the text as a part of the bytes, and a region by its two numbers.
-use Rattle.std.specs.Prelude.{◌≡◌, ℕ, ◌-◌, ◌^◌, ◌≤◌, ◌<◌, Bool, true, false, ◌&&◌, List, take}
+-- `chosen_region`, for each of its returns: `text` is the book's text.
+use Rattle.std.specs.Prelude.{◌≡◌, ℕ, ◌≤◌, ◌<◌, Bool, true, false, List, length}
 use Rattle.std.proofs.Math.Path.{sym, ap}
 use Rattle.std.proofs.Common.{◌∙◌, subst, arith}
-use Rattle.std.proofs.Math.Nat.{sub-zero}
-use Rattle.std.proofs.Math.ListN.{length}
-use Rattle.std.proofs.Math.Dec.{eqb}
 use Rattle.model.specs.Limits.{max_text}
 use Rattle.model.specs.Offset.{Span}
 use Rattle.model.specs.Refusal.{Checked, Checked.refused, Checked.accepted}
-use Rattle.model.specs.Tape.{records_at, node_codec, pair_codec, places, book_at}
+use Rattle.model.specs.Tape.{records_at, node_codec, pair_codec}
 use Rattle.model.specs.Region.{balanced_region, is_whole, has_ruby_format_dependency, chosen_region, edit_of}
-use Rattle.places.specs.declared.Places.{Places}
-use Rattle.store.specs.declared.Store.{Store}
+use Rattle.laws.specs.Checks.{place_facts}
+use Rattle.edit.specs.declared.Edit.{Edit}
 use Rattle.edit.specs.Numbers.{edit_number, edit_inside}
-use Rattle.balanced_region.specs.declared.Region.{Region as Cuts}
-use Rattle.balanced_region.specs.Ends.{balanced_in, region_of, balanced_bounds}
-use Rattle.balanced_region.specs.Survives.{search_from, search_bounds, region_of_book}
-use Rattle.cuts.specs.Gaps.{NodesIn}
+use Rattle.edit.specs.Values.{edit_value}
+use Rattle.tape.specs.declared.book.Book.{Book}
+use Rattle.tape.specs.Held.{held_length, held_short, held_nodes, held_pairs}
+use Rattle.tape.specs.StringBytes.{book_of}
+use Rattle.balanced_region.specs.Ends.{balanced_in}
+use Rattle.balanced_region.specs.Survives.{search_from, region_of_book}
+use Rattle.cuts.specs.Gaps.{NodesIn, book_nodes}
 use Rattle.region.specs.Chosen.{whole_text, chosen_edit, chosen_depends, chosen_whole, chosen_region_lem}
-use Rattle.region.specs.Held.{Held, held_text, held_length, held_short, held_nodes, held_pairs, held_order}
 
-module _ {t d : List ℕ} {p : Places} {st : Store} (r : Held t d p st) where
-  text_is : take (p.text - 0) d ≡ (book_at t (places t) d).sanitized
-  text_is = ap (λ (n : ℕ). take n d) (sub-zero p.text) ∙ held_text r
+module _ (b : Book) {text : List ℕ} (k : text ≡ (book_of b).sanitized) where
+  pub stage_short : length text ≤ max_text
+  stage_short = let s = held_short b.held in omega (arith, ap length k, held_length b.held, s)
 
-  text_length_lem : length (take (p.text - 0) d) ≡ p.text
-  text_length_lem = ap length text_is ∙ held_length r
+  -- as `Edited` asks
+  pub stage_nodes : NodesIn (length text) (records_at node_codec b.tape.now b.places.nodes.at b.places.nodes.count)
+  stage_nodes =
+      subst (λ ns. NodesIn (length text) ns) (sym (held_nodes b.held))
+      (subst (λ (l : List ℕ). NodesIn (length l) (book_of b).source_nodes) (sym k) (book_nodes (book_of b) (place_facts (book_of b) b.held.accepted.places_ok)))
 
-  pub stage_short : length (take (p.text - 0) d) ≤ max_text
-  stage_short = let s = held_short r in omega (arith, text_length_lem, s)
+  module _ (e : Edit) {n : ℕ} (q : n ≡ edit_number text (edit_value e)) where
+    number : n ≡ edit_number (book_of b).sanitized (edit_value e)
+    number = q ∙ ap (λ (l : List ℕ). edit_number l (edit_value e)) k
 
-  module _ (start end : ℕ) (replacement : List ℕ) {n : ℕ} (q : n ≡ edit_number (take (p.text - 0) d) (edit_of start end replacement)) where
-    number : n ≡ edit_number (book_at t (places t) d).sanitized (edit_of start end replacement)
-    number = q ∙ ap (λ (text : List ℕ). edit_number text (edit_of start end replacement)) text_is
+    pub stage_edit : 0 < n → refused n ≡ chosen_region (book_of b) (edit_value e)
+    stage_edit h = sym (chosen_edit (book_of b) (edit_value e) number h)
 
-    pub stage_edit : 0 < n → refused n ≡ chosen_region (book_at t (places t) d) (edit_of start end replacement)
-    stage_edit h = sym (chosen_edit (book_at t (places t) d) (edit_of start end replacement) number h)
+    module _ (z : n ≡ 0) where
+      inside : (e.start.0 ≤ e.end.0) × (e.end.0 ≤ length text)
+      inside = edit_inside text e.start.0 e.end.0 e.replacement.now q z
 
-    module _ (z : n ≡ 0) {x : Bool} (f : (end : ℕ) (replacement : List ℕ) → x ≡ has_ruby_format_dependency (book_at t (places t) d) (edit_of start end replacement)) where
-      pub stage_depends : x ≡ true → refused 10 ≡ chosen_region (book_at t (places t) d) (edit_of start end replacement)
-      stage_depends h = sym (chosen_depends (book_at t (places t) d) (edit_of start end replacement) number z (f end replacement) h)
+      -- as `Edited` asks
+      pub stage_inside : (e.start.0 ≤ length text) × (e.end.0 ≤ length text)
+      stage_inside = (omega (arith, inside), inside.1)
 
-      inside : (start ≤ end) × (end ≤ length (take (p.text - 0) d))
-      inside = edit_inside (take (p.text - 0) d) start end replacement q z
+      module _ {x : Bool} (f : (end : ℕ) (replacement : List ℕ) → x ≡ has_ruby_format_dependency (book_of b) (edit_of e.start.0 end replacement)) where
+        pub stage_depends : x ≡ true → refused 10 ≡ chosen_region (book_of b) (edit_value e)
+        stage_depends h = sym (chosen_depends (book_of b) (edit_value e) number z (f e.end.0 e.replacement.now) h)
 
-      -- as `balanced_region` asks
-      pub stage_region : (start ≤ length (take (p.text - 0) d)) × (end ≤ length (take (p.text - 0) d))
-      stage_region = (omega (arith, inside), inside.1)
+        module _ (g : x ≡ false) {s : Span}
+            (v : s ≡ balanced_in text (records_at node_codec b.tape.now b.places.nodes.at b.places.nodes.count) (records_at pair_codec b.tape.now b.places.pairs.at b.places.pairs.count)
+            e.start.0 (search_from text e.start.0 e.end.0 e.replacement.now)) where
+          region_is : s ≡ balanced_region (book_of b) (edit_value e)
+          unfolding edit_of
+          region_is = let i = inside in region_of_book (book_of b) (edit_value e) i.0 (omega (arith, i.1, ap length k)) k (held_nodes b.held) (held_pairs b.held) v
 
-      pub stage_nodes : NodesIn (length (take (p.text - 0) d)) (records_at node_codec t p.nodes.at p.nodes.count)
-      stage_nodes = subst (λ (k : ℕ). NodesIn k (records_at node_codec t p.nodes.at p.nodes.count)) (sym text_length_lem) (held_order r)
+          module _ {w : Bool} (h : w ≡ whole_text b.places.text.0 s) where
+            whole_is : w ≡ is_whole (book_of b) (balanced_region (book_of b) (edit_value e))
+            unfolding whole_text is_whole
+            whole_is = h ∙ ap (λ (m : ℕ). whole_text m s) (sym (held_length b.held)) ∙ ap (whole_text (length (book_of b).sanitized)) region_is
 
-      module _ (g : x ≡ false) {s : Cuts}
-          (e : region_of s ≡ balanced_in (take (p.text - 0) d) (records_at node_codec t p.nodes.at p.nodes.count) (records_at pair_codec t p.pairs.at p.pairs.count)
-          start (search_from (take (p.text - 0) d) start end replacement)) where
-        region_is : region_of s ≡ balanced_region (book_at t (places t) d) (edit_of start end replacement)
-        unfolding edit_of
-        region_is =
-            let i = inside in
-            let l : end ≤ length (book_at t (places t) d).sanitized = omega (arith, i.1, ap length text_is) in
-            region_of_book (book_at t (places t) d) (edit_of start end replacement) i.0 l text_is (held_nodes r) (held_pairs r) e
+            pub stage_whole : w ≡ true → refused 11 ≡ chosen_region (book_of b) (edit_value e)
+            stage_whole i = sym (chosen_whole (book_of b) (edit_value e) number z (f e.end.0 e.replacement.now) g whole_is i)
 
-        pub stage_fits : (s.start < 2 ^ 32) × (s.end < 2 ^ 32)
-        stage_fits =
-            let b = balanced_bounds (take (p.text - 0) d) (records_at node_codec t p.nodes.at p.nodes.count) (records_at pair_codec t p.pairs.at p.pairs.count)
-            start (search_from (take (p.text - 0) d) start end replacement) (search_bounds (take (p.text - 0) d) start end replacement inside.1).1 in
-            let u = ap (λ (y : Span). y.start) e in
-            let v = ap (λ (y : Span). y.end) e in
-            let w = stage_short in
-            (omega (arith, b, u, w, inside), omega (arith, b, v, w))
-
-        module _ {w : Bool} (h : w ≡ whole_text p.text s.start s.end) where
-          whole_is : w ≡ is_whole (book_at t (places t) d) (balanced_region (book_at t (places t) d) (edit_of start end replacement))
-          unfolding whole_text is_whole
-          whole_is =
-              h ∙ ap (λ (k : ℕ). eqb s.start 0 && eqb s.end k) (sym (held_length r))
-              ∙ ap (λ (y : Span). eqb y.start 0 && eqb y.end (length (book_at t (places t) d).sanitized)) region_is
-
-          pub stage_whole : w ≡ true → refused 11 ≡ chosen_region (book_at t (places t) d) (edit_of start end replacement)
-          stage_whole k = sym (chosen_whole (book_at t (places t) d) (edit_of start end replacement) number z (f end replacement) g whole_is k)
-
-          pub stage_chosen : w ≡ false → accepted (region_of s) ≡ chosen_region (book_at t (places t) d) (edit_of start end replacement)
-          stage_chosen k =
-              ap {B = Checked Span} accepted region_is
-              ∙ sym (chosen_region_lem (book_at t (places t) d) (edit_of start end replacement) number z (f end replacement) g whole_is k)
+            pub stage_chosen : w ≡ false → accepted s ≡ chosen_region (book_of b) (edit_value e)
+            stage_chosen i =
+                ap {B = Checked Span} accepted region_is ∙ sym (chosen_region_lem (book_of b) (edit_value e) number z (f e.end.0 e.replacement.now) g whole_is i)

@@ -2,7 +2,7 @@
 // tools/cases/make writes the cases, and from document 01 the output that is stored beside them.
 #![tactic(auto)]
 
-use span::Span;
+use span::{SourceOffset, Span};
 use std::io;
 use std::io::Read;
 
@@ -17,10 +17,10 @@ fn put_text(rt: &impl Print, s: &[u8]) -> io::Result<()> {
     Ok(())
 }
 
-// The text stands first in the byte buffer. By two numbers, as `region_text` takes them.
-fn put_region(rt: &impl Print, bytes: &[u8], start: u32, end: u32) -> io::Result<()> {
-    print!(rt; "region {start} {end} \"")?;
-    put_text(rt, region::region_text(bytes, start, end))?;
+// The text stands first in the byte buffer.
+fn put_region(rt: &impl Print, bytes: &[u8], region: Span) -> io::Result<()> {
+    print!(rt; "region {} {} \"", region.start.0, region.end.0)?;
+    put_text(rt, region::region_text(bytes, region))?;
     print!(rt; "\"")
 }
 
@@ -28,8 +28,10 @@ fn show(rt: &impl Print, c: cases::Case) -> io::Result<()> {
     let mut words = [0u32; 64];
     rt.write_all(c.label)?;
     print!(rt; ": ")?;
-    match region::choose_region(c.tape, c.bytes, c.start, c.end, c.replacement, &mut words) {
-        Ok(Span { start, end }) => put_region(rt, c.bytes, start, end)?,
+    let start = SourceOffset(c.start);
+    let end = SourceOffset(c.end);
+    match region::choose_region(c.tape, c.bytes, start, end, c.replacement, &mut words) {
+        Ok(region) => put_region(rt, c.bytes, region)?,
         Err(refusal) => print!(rt; "refused {}", u32::from(refusal))?,
     }
     println!(rt)

@@ -1,7 +1,8 @@
 -- How a pair is found by its id, where the ids of the pairs rise.
 use Rattle.std.specs.Prelude.{◌≡◌, Option, Some, None, ℕ, ◌+◌, ◌*◌, ◌≤◌, ◌<◌, List, get_or, ltb}
 use Rattle.std.proofs.Common.{ap, ◌∙◌, arith, ltb-true, ltb-false}
-use Rattle.wire.specs.Loops.{by_bool}
+use Rattle.facts.specs.Truth.{by_bool}
+use Rattle.span.specs.declared.StrId.{StrId}
 use Rattle.representatives.specs.Pairs.{pairs_in}
 
 -- the ids of the first m pairs rise
@@ -45,8 +46,8 @@ module _ {words : List ℕ} {m id lo hi : ℕ} (split : Split words m id lo hi) 
 -- ---- what is answered
 
 -- an answer as the second word of a pair has it: plus 1, or 0 for none
-abbrev pub as_word : Option ℕ → ℕ
-as_word (Some r) = r + 1
+abbrev pub as_word : Option StrId → ℕ
+as_word (Some r) = r.0 + 1
 as_word None = 0
 
 -- for an id that has a pair, where they rise: the second word of the pair

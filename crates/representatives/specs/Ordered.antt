@@ -2,7 +2,7 @@
 use Rattle.std.specs.Prelude.{◌≡◌, ℕ, ◌+◌, ◌*◌, ◌≤◌, ◌<◌, List, length, get_or, replicate, ltb}
 use Rattle.std.proofs.Common.{ap, ◌∙◌, arith, ltb-true, ltb-false}
 use Rattle.std.proofs.lemmas.List.{get_or-replicate}
-use Rattle.wire.specs.Loops.{by_bool}
+use Rattle.facts.specs.Truth.{by_bool}
 use Rattle.representatives.specs.Pairs.{pairs_in, pair_put, put_other, put_first, put_count}
 use Rattle.representatives.specs.Bisection.{Rising}
 

@@ -14,6 +14,7 @@ ghost use Rattle.representatives.specs.Bisection.{Rising, Split, Known, as_word}
 ghost use Rattle.representatives.specs.Ordered.{Ordered};
 
 use sorted_ids::Row;
+use span::StrId;
 use store::Store;
 use strings::Strings;
 
@@ -39,20 +40,20 @@ pub fn any_long(tape: &[u8], st: &Store, least: usize) -> bool
     requires { OfTape tape.now st.now }
     ensures { result ≡ any_up_to st.now.totals.strings (λ (i : ℕ). leb least (get_or (lengths_in tape.now) i 0)) }
 {
-    (0..st.totals.strings).any(|i| least <= strings::string_length(tape, st, i))
+    (0..st.totals.strings).any(|i| least <= strings::string_length(tape, st, StrId(i)))
 }
 
 // How many pairs have lower ids, where the ids rise: they are the first.
-fn rank_of(words: &[u32], m: usize, id: u32) -> usize
+fn rank_of(words: &[u32], m: usize, id: StrId) -> usize
     requires { 2 * m ≤ length words.now - 1 }
-    ensures { Split words.now m id result result }
+    ensures { Split words.now m id.0 result result }
 {
     let mut lo = 0;
     let mut hi = m;
     // The words may hold anything, and `partition_point` tells nothing of what does not rise.
     while lo < hi {
         let mid = lo + (hi - lo) / 2;
-        if words[2 * mid + 1] < id {
+        if words[2 * mid + 1] < id.0 {
             lo = mid + 1;
         } else {
             hi = mid;
@@ -72,33 +73,33 @@ fn pairs_in(words: &[u32]) -> usize
 }
 
 // The representative of a string, where one is known. What it says is right in any case, and an id that has a pair is found where the ids rise.
-pub fn representative(words: &[u32], id: u32) -> Option<u32>
-    ensures by_index { (K : ℕ → List ℕ) → Pairs K words.now → IfSome result (λ r. K r ≡ K id) }
-    ensures known { Known words.now id (as_word result) }
+pub fn representative(words: &[u32], id: StrId) -> Option<StrId>
+    ensures by_index { (K : ℕ → List ℕ) → Pairs K words.now → IfSome result (λ r. K r.0 ≡ K id.0) }
+    ensures known { Known words.now id.0 (as_word result) }
 {
     let m = pairs_in(words);
     let p = rank_of(words, m, id);
     if m <= p {
         return None;
     }
-    if words[2 * p + 1] != id {
+    if words[2 * p + 1] != id.0 {
         return None;
     }
     match words[2 * p + 2] {
         0 => None,
-        word => Some(word - 1),
+        word => Some(StrId(word - 1)),
     }
 }
 
 // One pair more, the n-th. Words and how many pairs they have go side by side, here and below, as they are lent: see `sorted_ids::insert`.
-fn put_pair(words: &mut [u32], n: usize, id: u32, representative: u32)
+fn put_pair(words: &mut [u32], n: usize, id: StrId, representative: StrId)
     requires n_bound { (n < 4096) × (2 * n + 2 < length words.old) }
-    requires representative_bound { representative < 4294967295 }
-    ensures { words.new ≡ pair_put words.old n id representative }
+    requires representative_bound { representative.0 < 4294967295 }
+    ensures { words.new ≡ pair_put words.old n id.0 representative.0 }
 {
     words[0] = (n + 1) as u32;
-    words[2 * n + 1] = id;
-    words[2 * n + 2] = representative + 1;
+    words[2 * n + 1] = id.0;
+    words[2 * n + 2] = representative.0 + 1;
 }
 
 // One long string more, the n-th: its pair. The row has each string of the pairs once. Answers how many the row has then.
@@ -108,15 +109,15 @@ fn pair_string(
     m: usize,
     words: &mut [u32],
     n: usize,
-    id: u32,
+    id: StrId,
 ) -> usize
     requires row { Sorted strings.now row.old m }
-    requires m_in_bounds { (m < length row.old) × (id < strings.now.store.now.totals.strings) × (strings.now.store.now.totals.strings < 2 ^ 32) }
+    requires m_in_bounds { (m < length row.old) × (id.0 < strings.now.store.now.totals.strings) × (strings.now.store.now.totals.strings < 2 ^ 32) }
     requires n_bound { (n < 4096) × (2 * n + 2 < length words.old) }
     requires pairs { Pairs (string_in strings.now) words.old }
-    requires ordered { Ordered words.old n id }
+    requires ordered { Ordered words.old n id.0 }
     ensures paired { Paired strings.now row.new result (m + 1) words.new }
-    ensures ordered_2 { Ordered words.new (n + 1) (id + 1) }
+    ensures ordered_2 { Ordered words.new (n + 1) (id.0 + 1) }
 {
     let own = Row {
         strings: &*strings,
@@ -140,7 +141,8 @@ fn pair_all(strings: &Strings, row: &mut [u32], words: &mut [u32], room: usize, 
 {
     let mut n = 0;
     let mut m = 0;
-    for id in 0..strings.store.totals.strings {
+    for i in 0..strings.store.totals.strings {
+        let id = StrId(i);
         if strings.string_length(id) < least {
             continue;
         }

@@ -16,8 +16,8 @@ use Rattle.wire.specs.Overwrite.{overwrite, overwrite_nil}
 use Rattle.stats.specs.Counts.{stats_of, no_stats}
 use Rattle.store.specs.Lengths.{book_lengths}
 use Rattle.store.specs.declared.Totals.{Totals}
-use Rattle.region.specs.declared.book.Book.{Book}
-use Rattle.region.specs.Books.{book_of}
+use Rattle.tape.specs.declared.book.Book.{Book}
+use Rattle.tape.specs.StringBytes.{book_of}
 use Rattle.layer.specs.declared.Grafted.{Grafted}
 use Rattle.layer.specs.Answers.{LayerTold}
 use Rattle.layer.specs.Layered.{new_layer, grafted_into, layer_records, layer_ok}

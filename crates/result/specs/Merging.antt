@@ -1,4 +1,4 @@
--- The returns of `merge_books`: number 18 where a test fails, else the merged book and what is returned beside it.
+-- The returns of `put_result`: number 18 where a test fails, else the merged book and what is returned beside it.
 use Rattle.std.specs.Prelude.{◌≡◌, ℕ, ◌+◌, ◌≤◌, ◌<◌, Bool, true, false, List, Some, None}
 use Rattle.std.proofs.Math.Path.{refl, sym, ap}
 use Rattle.std.proofs.Common.{◌∙◌, arith, true≢false, length-append}
@@ -6,46 +6,56 @@ use Rattle.std.proofs.Math.ListN.{length}
 use Rattle.model.specs.Types.{LexOutput, RegionOutput}
 use Rattle.model.specs.Limits.{max_pool}
 use Rattle.model.specs.Refusal.{Checked, Checked.accepted, Checked.refused}
-use Rattle.model.specs.Tape.{records_at, records_bytes, node_codec, bytes_needed}
+use Rattle.model.specs.Lists.{all}
+use Rattle.model.specs.Tape.{records_at, records_bytes, node_codec, diagnostic_codec}
 use Rattle.model.specs.Region.{Edit}
-use Rattle.model.specs.Merge.{Room, IncrementalOutput, MergeWindow, node_located, kept_before, kept_behind, grafted, stored_book, answer, room_of, result_checked}
+use Rattle.model.specs.Merge.{Room, IncrementalOutput, MergeWindow, spliced, node_located, diagnostic_located, kept_before, kept_behind, grafted, stored_book, answer, room_of, result_checked}
 use Rattle.wire.specs.Overwrite.{overwrite}
 use Rattle.places.specs.declared.Places.{Places}
-use Rattle.places.specs.Found.{found}
 use Rattle.store.specs.declared.Store.{Store}
-use Rattle.tape.specs.Accepted.{accepted_places}
-use Rattle.tape.specs.Placed.{PlacesFit, fit_nodes}
+use Rattle.tape.specs.Held.{held_places}
+use Rattle.tape.specs.Placed.{fit_nodes}
 use Rattle.merged_lists.specs.declared.Kept.{Kept}
 use Rattle.merged_lists.specs.declared.Lengths.{Lengths}
 use Rattle.result.specs.declared.Graft.{Graft}
 use Rattle.output.specs.declared.IncrementalOutput.{IncrementalOutput as Output}
 use Rattle.output.specs.Answer.{output_by, Written}
+use Rattle.laws.specs.Fits.{record_fits}
 use Rattle.laws.specs.Result.{ResultFacts}
 use Rattle.result.specs.Parts.{old_layers_length}
-use Rattle.fitting.specs.Books.{Books, book_in}
-use Rattle.result.specs.Books.{merge_of, lengths_read, limits_old}
+use Rattle.tape.specs.StringBytes.{book_of}
+use Rattle.tape.specs.declared.book.Book.{Book}
+use Rattle.fitting.specs.Fits.{Fits}
+use Rattle.fitting.specs.Inside.{lengths_read, limits_old}
+use Rattle.result.specs.Books.{merge_of}
 use Rattle.merged_lists.specs.Sizes.{kept_of, room_for, lengths_of, lists_end, room_facts, room_ok}
-use Rattle.merged_lists.specs.Lists.{Lists, lists_of}
-use Rattle.result.specs.Whole.{above, kept_nodes, small, tape_length_lem, needed_room, needed_graft, enough, accepted_is, refused_is, nodes_fit, diagnostics_fit, tape_stands}
+use Rattle.merged_lists.specs.Lists.{lists_of, old_diagnostics}
+use Rattle.result.specs.Whole.{above, kept_nodes, tape_length_lem, needed_room, needed_graft, enough, accepted_is, refused_is, nodes_fit, diagnostics_fit, tape_stands}
 use Rattle.result.specs.Stages.{up_to, StoreTold, written_refused, written_accepted}
 
 -- ---- what the stages ask
 
-module _ {t d : List ℕ} {p : Places} {st : Store} {e : Edit} {w : MergeWindow} {rt rd : List ℕ} {q : Places} {rst : Store} (b : Books t d p st e w rt rd q rst) where
-  pub old_fit : PlacesFit t p
-  old_fit = accepted_places b.book b.old_places
+module _ {book : Book} {e : Edit} {w : MergeWindow} {reading : Book} (b : Fits book e w reading) where
+  abbrev t : List ℕ
+  t = book.tape.now
 
-  pub read_fit : PlacesFit rt q
-  read_fit = accepted_places b.reading.whole b.reading_places
+  abbrev d : List ℕ
+  d = book.bytes.now
 
-  pub texts_inside : (p.text + p.normalized ≤ length d) × (q.text + q.normalized ≤ length rd)
-  unfolding bytes_needed found
-  texts_inside =
-      let x₁ = ap (λ (x : Places). x.text) b.old_places in
-      let x₂ = ap (λ (x : Places). x.normalized) b.old_places in
-      let y₁ = ap (λ (x : Places). x.text) b.reading_places in
-      let y₂ = ap (λ (x : Places). x.normalized) b.reading_places in
-      (omega (arith, x₁, x₂, b.book.framing.bytes), omega (arith, y₁, y₂, b.reading.whole.framing.bytes))
+  abbrev p : Places
+  p = book.places
+
+  abbrev st : Store
+  st = book.store
+
+  abbrev rt : List ℕ
+  rt = reading.tape.now
+
+  abbrev rd : List ℕ
+  rd = reading.bytes.now
+
+  abbrev q : Places
+  q = reading.places
 
   pub pools_fit : (st.totals.strings ≤ max_pool) × (st.totals.contents ≤ max_pool) × (st.totals.segments ≤ max_pool)
   pools_fit =
@@ -54,17 +64,17 @@ module _ {t d : List ℕ} {p : Places} {st : Store} {e : Edit} {w : MergeWindow}
       (omega (arith, a.strings, m.strings), omega (arith, a.contents, m.contents), omega (arith, a.segments, m.segments))
 
   pub nodes_at_lem : (9 ≤ p.nodes.at) × (p.nodes.at ≤ length t)
-  nodes_at_lem = let n = old_layers_length b.bytes b.book b.old_places in let f = fit_nodes old_fit in (omega (arith, n), omega (arith, f))
+  nodes_at_lem = let n = old_layers_length b.bytes book.held.accepted book.held.is in let f = fit_nodes (held_places book.held) in (omega (arith, n), omega (arith, f))
 
   -- ---- the returns
 
   module _ {k : Kept} (kept : k ≡ kept_of w t p) {l : Lengths} (sizes : l ≡ lengths_of p q e.start e.end (length e.replacement) w.normalized.start w.normalized.end (length d))
       (out text work : List ℕ) where
     abbrev old : LexOutput
-    old = book_in t d
+    old = book_of book
 
     abbrev read : RegionOutput
-    read = book_in rt rd
+    read = book_of reading
 
     abbrev room : Room
     room = room_of out text work
@@ -98,15 +108,8 @@ module _ {t d : List ℕ} {p : Places} {st : Store} {e : Edit} {w : MergeWindow}
           facts : ResultFacts room (grafted old read) (merge_of old e read w)
           facts = enough b kept sizes room (room_facts l k q p.nodes.at (length out) (length text) (length work) (sym y ∙ f)) (sym s.ok) at_is (omega (arith, size, fits))
 
-          pub lists_ready : Lists t p w k rt q (length out') at
-          lists_ready = record {
-            old = old_fit;
-            reading = read_fit;
-            kept = kept;
-            small = small b kept;
-            room = omega (arith, size, fits, long);
-            diagnostics = diagnostics_fit b kept sizes room facts;
-          }
+          pub diagnostics_ready : all (record_fits diagnostic_codec) (spliced diagnostic_located w (old_diagnostics t p) (old_diagnostics rt q)) ≡ true
+          diagnostics_ready = diagnostics_fit b kept sizes room facts
 
           pub bytes_small : l.base + r.bytes ≤ length text
           bytes_small = let m = s.made in let g = facts in omega (arith, m.size, g.bytes)

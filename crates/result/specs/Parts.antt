@@ -12,9 +12,8 @@ use Rattle.model.specs.Types.{Layer, LexOutput, RegionOutput}
 use Rattle.model.specs.Tape.{places, book_at, layer_bytes}
 use Rattle.model.specs.Graft.{NewLayer, layer_of}
 use Rattle.model.specs.Merge.{merged_layers}
-use Rattle.laws.specs.Lists.{flatten_snoc, map_append}
+use Rattle.facts.specs.Lists.{flatten_snoc, map_append, sum_append}
 use Rattle.laws.specs.Parts.{layers_bytes, strings_bytes, layers_count, layers_stand, strings_stand}
-use Rattle.wire.specs.Loops.{sum_append}
 use Rattle.places.specs.declared.Places.{Places}
 use Rattle.places.specs.Found.{found}
 use Rattle.store.specs.Lengths.{book_lengths}
@@ -92,7 +91,7 @@ module _ {t d : List ℕ} (are : AreBytes t) (a : Accepted t d) {p : Places} (e 
   pub old_layers : part t 9 (p.nodes.at - 9) ≡ layers_bytes old
   old_layers = ap (λ (n : ℕ). part t 9 (n - 9)) nodes_at ∙ layers_stand t d are a.parsed
 
-  pub old_strings_lem : drop (p.text + p.normalized) d ≡ strings_bytes old
+  pub old_strings_lem : drop (p.text.0 + p.normalized.0) d ≡ strings_bytes old
   old_strings_lem =
       let l = book_lengths t d p a.framing e in
       ap (λ (n : ℕ). drop n d) (ap₂ (λ (n m : ℕ). n + m) (sym l.text) (sym l.normalized)) ∙ strings_stand t d are a.parsed

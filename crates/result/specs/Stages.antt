@@ -33,8 +33,11 @@ use Rattle.output.specs.declared.IncrementalOutput.{IncrementalOutput as Output}
 use Rattle.output.specs.Answer.{counters_of, output_by, output_of, output_value, Written}
 use Rattle.merged_texts.specs.Writing.{spliced_length}
 use Rattle.result.specs.Parts.{new_layer_bytes, new_string_bytes, old_layers, old_strings_lem, old_layers_length}
-use Rattle.fitting.specs.Books.{Books, book_in}
-use Rattle.result.specs.Books.{merge_of, lengths_read, new_text, new_normalized, new_bytes}
+use Rattle.tape.specs.StringBytes.{book_of}
+use Rattle.tape.specs.declared.book.Book.{Book}
+use Rattle.fitting.specs.Fits.{Fits}
+use Rattle.fitting.specs.Inside.{lengths_read}
+use Rattle.result.specs.Books.{merge_of, new_text, new_normalized, new_bytes}
 use Rattle.merged_lists.specs.Sizes.{lengths_of}
 use Rattle.result.specs.Grafting.{graft_ok, GraftMade, GraftTold}
 use Rattle.result.specs.Whole.{above, text_is, normalized_is, base_is, node_bytes_lem}
@@ -43,40 +46,40 @@ use Rattle.result.specs.Whole.{above, text_is, normalized_is, base_is, node_byte
 
 abbrev pub texts_of : Places → Places → ℕ → ℕ → List ℕ → ℕ → ℕ → List ℕ → List ℕ → List ℕ
 texts_of p q start end replacement from to d rd =
-    splice start end replacement (take p.text d) ++ splice from to (take q.normalized (drop q.text rd)) (take p.normalized (drop p.text d)) ++ drop (p.text + p.normalized) d
+    splice start end replacement (take p.text.0 d) ++ splice from to (take q.normalized.0 (drop q.text.0 rd)) (take p.normalized.0 (drop p.text.0 d)) ++ drop (p.text.0 + p.normalized.0) d
 
 -- as the code has the slices
 pub texts_sliced : (p q : Places) (start end : ℕ) (replacement : List ℕ) (from to : ℕ) (d rd : List ℕ) (out : List ℕ) {out' : List ℕ} (text first first' : ℕ)
-    → text ≡ p.text → first ≡ text + p.normalized → first' ≡ q.text → first ≤ length d
-    → out' ≡ overwrite out 0 (splice start end replacement (take (text - 0) d) ++ splice from to (take (first' + q.normalized - first') (drop first' rd)) (take (first - text) (drop text d)) ++ take (length d - first) (drop first d))
+    → text ≡ p.text.0 → first ≡ text + p.normalized.0 → first' ≡ q.text.0 → first ≤ length d
+    → out' ≡ overwrite out 0 (splice start end replacement (take (text - 0) d) ++ splice from to (take (first' + q.normalized.0 - first') (drop first' rd)) (take (first - text) (drop text d)) ++ take (length d - first) (drop first d))
     → out' ≡ overwrite out 0 (texts_of p q start end replacement from to d rd)
 texts_sliced p q start end replacement from to d rd out text first first' a b c h e =
-    let x : take (text - 0) d ≡ take p.text d = ap (λ (n : ℕ). take n d) (sub-zero text ∙ a) in
-    let n : first' + q.normalized - first' ≡ q.normalized = omega arith in
-    let y : take (first' + q.normalized - first') (drop first' rd) ≡ take q.normalized (drop q.text rd) = ap₂ (λ (i j : ℕ). take i (drop j rd)) n c in
-    let m : first - text ≡ p.normalized = omega (arith, b) in
-    let z : take (first - text) (drop text d) ≡ take p.normalized (drop p.text d) = ap₂ (λ (i j : ℕ). take i (drop j d)) m a in
-    let k : first ≡ p.text + p.normalized = omega (arith, a, b) in
-    let v : take (length d - first) (drop first d) ≡ drop (p.text + p.normalized) d = take_all (length d - first) (drop first d) (let l = length-drop first d in omega (arith, l)) ∙ ap (λ (i : ℕ). drop i d) k in
+    let x : take (text - 0) d ≡ take p.text.0 d = ap (λ (n : ℕ). take n d) (sub-zero text ∙ a) in
+    let n : first' + q.normalized.0 - first' ≡ q.normalized.0 = omega arith in
+    let y : take (first' + q.normalized.0 - first') (drop first' rd) ≡ take q.normalized.0 (drop q.text.0 rd) = ap₂ (λ (i j : ℕ). take i (drop j rd)) n c in
+    let m : first - text ≡ p.normalized.0 = omega (arith, b) in
+    let z : take (first - text) (drop text d) ≡ take p.normalized.0 (drop p.text.0 d) = ap₂ (λ (i j : ℕ). take i (drop j d)) m a in
+    let k : first ≡ p.text.0 + p.normalized.0 = omega (arith, a, b) in
+    let v : take (length d - first) (drop first d) ≡ drop (p.text.0 + p.normalized.0) d = take_all (length d - first) (drop first d) (let l = length-drop first d in omega (arith, l)) ∙ ap (λ (i : ℕ). drop i d) k in
     e ∙ ap (overwrite out 0) (ap₂ (λ (i j : List ℕ). i ++ j) (ap₂ (λ (i j : List ℕ). i ++ j) (ap (splice start end replacement) x) (ap₂ (splice from to) y z)) v)
 
 -- what `put_texts` and its two texts ask
-pub texts_asked : (p q : Places) (start end : ℕ) (replacement : List ℕ) (from to : ℕ) (d rd : List ℕ) (out : ℕ) → (start ≤ end) × (end ≤ p.text) × (from ≤ to) × (to ≤ p.normalized)
-    → p.text + p.normalized ≤ length d → q.text + q.normalized ≤ length rd → (lengths_of p q start end (length replacement) from to (length d)).base ≤ out
-    → ((start ≤ end) × (end ≤ length (take (p.text - 0) d))) × ((from ≤ to) × (to ≤ length (take (p.text + p.normalized - p.text) (drop p.text d))))
-    × (length (splice start end replacement (take (p.text - 0) d))
-    + length (splice from to (take (q.text + q.normalized - q.text) (drop q.text rd)) (take (p.text + p.normalized - p.text) (drop p.text d)))
-    + length (take (length d - (p.text + p.normalized)) (drop (p.text + p.normalized) d)) ≤ out)
+pub texts_asked : (p q : Places) (start end : ℕ) (replacement : List ℕ) (from to : ℕ) (d rd : List ℕ) (out : ℕ) → (start ≤ end) × (end ≤ p.text.0) × (from ≤ to) × (to ≤ p.normalized.0)
+    → p.text.0 + p.normalized.0 ≤ length d → q.text.0 + q.normalized.0 ≤ length rd → (lengths_of p q start end (length replacement) from to (length d)).base ≤ out
+    → ((start ≤ end) × (end ≤ length (take (p.text.0 - 0) d))) × ((from ≤ to) × (to ≤ length (take (p.text.0 + p.normalized.0 - p.text.0) (drop p.text.0 d))))
+    × (length (splice start end replacement (take (p.text.0 - 0) d))
+    + length (splice from to (take (q.text.0 + q.normalized.0 - q.text.0) (drop q.text.0 rd)) (take (p.text.0 + p.normalized.0 - p.text.0) (drop p.text.0 d)))
+    + length (take (length d - (p.text.0 + p.normalized.0)) (drop (p.text.0 + p.normalized.0) d)) ≤ out)
 texts_asked p q start end replacement from to d rd out h a b c =
-    let text = take (p.text - 0) d in
-    let normalized = take (p.text + p.normalized - p.text) (drop p.text d) in
-    let own = take (q.text + q.normalized - q.text) (drop q.text rd) in
-    let n₁ : length text ≡ p.text = length-take-le (p.text - 0) d (omega (arith, a)) ∙ sub-zero p.text in
-    let m₂ : p.text + p.normalized - p.text ≡ p.normalized = omega arith in
-    let n₂ : length normalized ≡ p.normalized = length-take-le (p.text + p.normalized - p.text) (drop p.text d) (rw length-drop (omega (arith, a))) ∙ m₂ in
-    let m₃ : q.text + q.normalized - q.text ≡ q.normalized = omega arith in
-    let n₃ : length own ≡ q.normalized = length-take-le (q.text + q.normalized - q.text) (drop q.text rd) (rw length-drop (omega (arith, b))) ∙ m₃ in
-    let n₄ : length (take (length d - (p.text + p.normalized)) (drop (p.text + p.normalized) d)) ≡ length d - (p.text + p.normalized) = length-take-le (length d - (p.text + p.normalized)) (drop (p.text + p.normalized) d) (rw length-drop (omega arith)) in
+    let text = take (p.text.0 - 0) d in
+    let normalized = take (p.text.0 + p.normalized.0 - p.text.0) (drop p.text.0 d) in
+    let own = take (q.text.0 + q.normalized.0 - q.text.0) (drop q.text.0 rd) in
+    let n₁ : length text ≡ p.text.0 = length-take-le (p.text.0 - 0) d (omega (arith, a)) ∙ sub-zero p.text.0 in
+    let m₂ : p.text.0 + p.normalized.0 - p.text.0 ≡ p.normalized.0 = omega arith in
+    let n₂ : length normalized ≡ p.normalized.0 = length-take-le (p.text.0 + p.normalized.0 - p.text.0) (drop p.text.0 d) (rw length-drop (omega (arith, a))) ∙ m₂ in
+    let m₃ : q.text.0 + q.normalized.0 - q.text.0 ≡ q.normalized.0 = omega arith in
+    let n₃ : length own ≡ q.normalized.0 = length-take-le (q.text.0 + q.normalized.0 - q.text.0) (drop q.text.0 rd) (rw length-drop (omega (arith, b))) ∙ m₃ in
+    let n₄ : length (take (length d - (p.text.0 + p.normalized.0)) (drop (p.text.0 + p.normalized.0) d)) ≡ length d - (p.text.0 + p.normalized.0) = length-take-le (length d - (p.text.0 + p.normalized.0)) (drop (p.text.0 + p.normalized.0) d) (rw length-drop (omega arith)) in
     let e₁ : end ≤ length text = omega (arith, n₁, h.1) in
     let e₂ : to ≤ length normalized = omega (arith, n₂, h.3) in
     let x = spliced_length start end replacement text h.0 e₁ in
@@ -101,12 +104,33 @@ pub record StoreTold (old : LexOutput) (e : Edit) (read : RegionOutput) (w : Mer
   pub ok : is_some r ≡ graft_ok (is_empty read.source_nodes) (length out) (length text) at base o (grafted old read)
   pub made : IfSome r (λ x. StoreMade old e read w out out' text' at base x)
 
-module _ {t d : List ℕ} {p : Places} {st : Store} {e : Edit} {w : MergeWindow} {rt rd : List ℕ} {q : Places} {rst : Store} (b : Books t d p st e w rt rd q rst) where
+module _ {book : Book} {e : Edit} {w : MergeWindow} {reading : Book} (b : Fits book e w reading) where
+  abbrev t : List ℕ
+  t = book.tape.now
+
+  abbrev d : List ℕ
+  d = book.bytes.now
+
+  abbrev p : Places
+  p = book.places
+
+  abbrev st : Store
+  st = book.store
+
+  abbrev rt : List ℕ
+  rt = reading.tape.now
+
+  abbrev rd : List ℕ
+  rd = reading.bytes.now
+
+  abbrev q : Places
+  q = reading.places
+
   abbrev old : LexOutput
-  old = book_in t d
+  old = book_of book
 
   abbrev read : RegionOutput
-  read = book_in rt rd
+  read = book_of reading
 
   abbrev new : LexOutput
   new = merge_of old e read w
@@ -119,9 +143,9 @@ module _ {t d : List ℕ} {p : Places} {st : Store} {e : Edit} {w : MergeWindow}
   texts_are =
       ap₂ (λ (i j : List ℕ). i ++ j)
       (ap₂ (λ (i j : List ℕ). i ++ j)
-      (ap (λ (x : Places). splice e.start e.end e.replacement (take x.text d)) b.old_places ∙ sym (new_text b))
-      (ap₂ (λ (x y : Places). splice w.normalized.start w.normalized.end (take y.normalized (drop y.text rd)) (take x.normalized (drop x.text d))) b.old_places b.reading_places ∙ sym (new_normalized b)))
-      (old_strings_lem b.bytes b.book b.old_places)
+      (ap (λ (x : Places). splice e.start e.end e.replacement (take x.text.0 d)) book.held.is ∙ sym (new_text b))
+      (ap₂ (λ (x y : Places). splice w.normalized.start w.normalized.end (take y.normalized.0 (drop y.text.0 rd)) (take x.normalized.0 (drop x.text.0 d))) book.held.is reading.held.is ∙ sym (new_normalized b)))
+      (old_strings_lem b.bytes book.held.accepted book.held.is)
 
   empty_count : none ≡ true → q.nodes.count ≡ 0
   empty_count y = let m = lengths_read b in omega (arith, m.nodes, go read.source_nodes y)
@@ -158,8 +182,8 @@ module _ {t d : List ℕ} {p : Places} {st : Store} {e : Edit} {w : MergeWindow}
         let ts = new.sanitized ++ new.normalized ++ strings_bytes old in
         let v₁ : text₁ ≡ overwrite text 0 ts = w₁ ∙ ap (overwrite text 0) texts_are in
         let v₂ : out₁ ≡ overwrite out 0 xs
-        = w₂ ∙ ap (overwrite out 0) (ap₂ (λ (i j : List ℕ). i ++ j) (ap₂ head_bytes (text_is b sizes) (normalized_is b sizes)) (old_layers b.bytes b.book b.old_places)) in
-        let n₁ : length xs ≡ at = length-append hd (layers_bytes old) ∙ (let i = head_length (length new.sanitized) (length new.normalized) in let j = old_layers_length b.bytes b.book b.old_places in omega (arith, i, j)) in
+        = w₂ ∙ ap (overwrite out 0) (ap₂ (λ (i j : List ℕ). i ++ j) (ap₂ head_bytes (text_is b sizes) (normalized_is b sizes)) (old_layers b.bytes book.held.accepted book.held.is)) in
+        let n₁ : length xs ≡ at = length-append hd (layers_bytes old) ∙ (let i = head_length (length new.sanitized) (length new.normalized) in let j = old_layers_length b.bytes book.held.accepted book.held.is in omega (arith, i, j)) in
         let m₁ : length out₁ ≡ length out = ap length v₂ ∙ length_overwrite out 0 xs (omega (arith, n₁, h)) in
         let m₂ : length text₁ ≡ length text = ap length v₁ ∙ length_overwrite text 0 ts (omega (arith, base_is b sizes, k)) in
         let ok : is_some r ≡ graft_ok none (length out) (length text) at l.base o g = c'.ok ∙ ap₂ (λ (i j : ℕ). graft_ok none i j at l.base o g) m₁ m₂ in

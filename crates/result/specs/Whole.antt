@@ -14,27 +14,27 @@ use Rattle.model.specs.Types.{Layer as ModelLayer, SourceNode, LexOutput, Region
 use Rattle.model.specs.Refusal.{Checked.refused, Checked.accepted}
 use Rattle.model.specs.Tree.{shown_node, shown_nodes}
 use Rattle.model.specs.Store.{store_of, string_counts, content_counts, segment_counts}
-use Rattle.model.specs.Tape.{records_at, records_bytes, node_codec, pair_codec, container_codec, diagnostic_codec, layer_bytes, book_at, tape_of, bytes_of}
+use Rattle.model.specs.Tape.{records_at, records_bytes, node_codec, pair_codec, container_codec, diagnostic_codec, layer_bytes, places, book_at, tape_of, bytes_of}
 use Rattle.model.specs.Graft.{layered, layer_of, With, graft_node_refs}
 use Rattle.model.specs.Region.{Edit}
 use Rattle.model.specs.Merge.{Room, MergeWindow, window_of, spliced, node_located, pair_located, container_located, diagnostic_located, grafted, merged_book, stored_book, answer, result_ok, result_checked}
+use Rattle.facts.specs.Truth.{by_bool}
 use Rattle.laws.specs.Result.{ResultFacts, result_facts, result_ok_lem}
 use Rattle.laws.specs.Checks.{merge_facts, merged_of}
 use Rattle.laws.specs.Fits.{record_fits}
 use Rattle.laws.specs.WriteRead.{book_fits}
 use Rattle.laws.specs.Parts.{six_words, nodes_width, nodes_six, head_bytes, head_length, layers_bytes, strings_bytes, list_bytes, tape_parts, list_length}
 use Rattle.laws.specs.Sort.{all_sort_is}
-use Rattle.laws.specs.Records.{node_lawful}
+use Rattle.laws.specs.Records.{node_lawful, records_stand}
 use Rattle.commute.specs.Step.{Step, limits}
 use Rattle.commute.specs.Grown.{grown}
 use Rattle.commute.specs.Book.{merged_book_lem}
-use Rattle.wire.specs.Loops.{by_bool}
 use Rattle.wire.specs.Overwrite.{overwrite, length_overwrite, overwrite_next, take_overwrite}
 use Rattle.places.specs.declared.Places.{Places}
 use Rattle.places.specs.Found.{found}
 use Rattle.store.specs.declared.Store.{Store}
 use Rattle.store.specs.Stored.{store_at}
-use Rattle.splice.specs.Spliced.{spliced_length, records_stand}
+use Rattle.splice.specs.Spliced.{spliced_length}
 use Rattle.diagnostics.specs.Sorted.{sort_length}
 use Rattle.store.specs.declared.Totals.{Totals}
 use Rattle.layer.specs.Layered.{Above, layer_records, layer_fits_lem, layer_ok_lem}
@@ -44,18 +44,44 @@ use Rattle.merged_lists.specs.declared.Lengths.{Lengths}
 use Rattle.result.specs.Checked.{result_cond, merge_passed}
 use Rattle.result.specs.Parts.{new_layer_bytes, new_string_bytes, if_layer, merged_layers_lem, merged_count, merged_number, old_layers_length, old_strings_lem}
 use Rattle.merged_lists.specs.Widths.{grafted_six, length_grafted, spliced_six}
-use Rattle.fitting.specs.Books.{Books, book_in}
-use Rattle.result.specs.Books.{merge_of, chosen, begun, old_fits_lem, reading_fits_lem, lengths_old, lengths_read, limits_old, limits_read, text_length_lem, normalized_length_lem, new_bytes}
-use Rattle.merged_lists.specs.Sizes.{sides_of, kept_of, total_of, lengths_of, Small, lists_end, RoomFor, few_kept}
+use Rattle.tape.specs.Held.{held_nodes, held_pairs, held_diagnostics}
+use Rattle.tape.specs.StringBytes.{book_of}
+use Rattle.tape.specs.declared.book.Book.{Book}
+use Rattle.fitting.specs.Fits.{Fits}
+use Rattle.fitting.specs.Inside.{chosen, begun, lengths_old, lengths_read, limits_old, limits_read}
+use Rattle.result.specs.Books.{merge_of, old_fits_lem, reading_fits_lem, text_length_lem, normalized_length_lem, new_bytes}
+use Rattle.merged_lists.specs.Sizes.{sides_of, kept_of, total_of, lengths_of, lists_end, RoomFor}
 use Rattle.merged_lists.specs.Lists.{lists_of, old_diagnostics}
 use Rattle.result.specs.Grafting.{graft_ok}
 
-module _ {t d : List ℕ} {p : Places} {st : Store} {e : Edit} {w : MergeWindow} {rt rd : List ℕ} {q : Places} {rst : Store} (b : Books t d p st e w rt rd q rst) where
+containers_found : (t d : List ℕ) {p : Places} → p ≡ found t → records_at container_codec t p.containers.at p.containers.count ≡ (book_at t (places t) d).container_pairs
+unfolding book_at found
+containers_found t d e = rw e refl
+
+module _ {book : Book} {e : Edit} {w : MergeWindow} {reading : Book} (b : Fits book e w reading) where
+  abbrev t : List ℕ
+  t = book.tape.now
+
+  abbrev d : List ℕ
+  d = book.bytes.now
+
+  abbrev p : Places
+  p = book.places
+
+  abbrev st : Store
+  st = book.store
+
+  abbrev rt : List ℕ
+  rt = reading.tape.now
+
+  abbrev q : Places
+  q = reading.places
+
   abbrev old : LexOutput
-  old = book_in t d
+  old = book_of book
 
   abbrev read : RegionOutput
-  read = book_in rt rd
+  read = book_of reading
 
   abbrev g : With (List SourceNode)
   g = grafted old read
@@ -69,32 +95,25 @@ module _ {t d : List ℕ} {p : Places} {st : Store} {e : Edit} {w : MergeWindow}
   -- ---- the lists by their places
 
   pub kept_nodes : records_at node_codec t p.nodes.at p.nodes.count ≡ old.source_nodes
-  unfolding book_at found
-  kept_nodes = rw b.old_places refl
+  kept_nodes = held_nodes book.held
 
   kept_pairs : records_at pair_codec t p.pairs.at p.pairs.count ≡ old.pairs
-  unfolding book_at found
-  kept_pairs = rw b.old_places refl
+  kept_pairs = held_pairs book.held
 
   kept_containers : records_at container_codec t p.containers.at p.containers.count ≡ old.container_pairs
-  unfolding book_at found
-  kept_containers = rw b.old_places refl
+  kept_containers = containers_found t book.bytes.now book.held.is
 
   kept_diagnostics : records_at diagnostic_codec t p.diagnostics.at p.diagnostics.count ≡ old.diagnostics
-  unfolding book_at found
-  kept_diagnostics = rw b.old_places refl
+  kept_diagnostics = held_diagnostics book.held
 
   read_pairs : records_at pair_codec rt q.pairs.at q.pairs.count ≡ read.pairs
-  unfolding book_at found
-  read_pairs = rw b.reading_places refl
+  read_pairs = held_pairs reading.held
 
   read_containers : records_at container_codec rt q.containers.at q.containers.count ≡ read.container_pairs
-  unfolding book_at found
-  read_containers = rw b.reading_places refl
+  read_containers = containers_found rt reading.bytes.now reading.held.is
 
   read_diagnostics : records_at diagnostic_codec rt q.diagnostics.at q.diagnostics.count ≡ read.diagnostics
-  unfolding book_at found
-  read_diagnostics = rw b.reading_places refl
+  read_diagnostics = held_diagnostics reading.held
 
   -- ---- how many, and the tape up to the lists
 
@@ -105,9 +124,9 @@ module _ {t d : List ℕ} {p : Places} {st : Store} {e : Edit} {w : MergeWindow}
   unfolding store_at found
   above =
       let n = lengths_old b in
-      let s₁ : st.totals.strings ≡ p.strings = ap (λ (x : Store). x.totals.strings) b.old_store ∙ sym (ap (λ (x : Places). x.strings) b.old_places) in
-      let s₂ : st.totals.contents ≡ p.contents = ap (λ (x : Store). x.totals.contents) b.old_store ∙ sym (ap (λ (x : Places). x.contents) b.old_places) in
-      let s₃ : st.totals.segments ≡ p.segments = ap (λ (x : Store). x.totals.segments) b.old_store ∙ sym (ap (λ (x : Places). x.segments) b.old_places) in
+      let s₁ : st.totals.strings ≡ p.strings = ap (λ (x : Store). x.totals.strings) book.held.stored ∙ sym (ap (λ (x : Places). x.strings) book.held.is) in
+      let s₂ : st.totals.contents ≡ p.contents = ap (λ (x : Store). x.totals.contents) book.held.stored ∙ sym (ap (λ (x : Places). x.contents) book.held.is) in
+      let s₃ : st.totals.segments ≡ p.segments = ap (λ (x : Store). x.totals.segments) book.held.stored ∙ sym (ap (λ (x : Places). x.segments) book.held.is) in
       record { strings = s₁ ∙ sym n.strings; contents = s₂ ∙ sym n.contents; segments = s₃ ∙ sym n.segments }
 
   pub node_bytes_lem : length (records_bytes node_codec g.0) ≡ 49 * q.nodes.count
@@ -133,7 +152,7 @@ module _ {t d : List ℕ} {p : Places} {st : Store} {e : Edit} {w : MergeWindow}
   up_to_length =
       let h = head_bytes (length new.sanitized) (length new.normalized) in
       let n₀ = head_length (length new.sanitized) (length new.normalized) in
-      let n₁ = old_layers_length b.bytes b.book b.old_places in
+      let n₁ = old_layers_length b.bytes book.held.accepted book.held.is in
       let n₂ = length-append h (layers_bytes old) in
       let n₃ = length-append (h ++ layers_bytes old) (new_layer_bytes none g.1) in
       omega (arith, n₀, n₁, n₂, n₃)
@@ -149,28 +168,13 @@ module _ {t d : List ℕ} {p : Places} {st : Store} {e : Edit} {w : MergeWindow}
     base_is =
         let n₁ = length-append new.sanitized new.normalized in
         let n₂ = length-append (new.sanitized ++ new.normalized) (strings_bytes old) in
-        let n₃ = ap length (sym (old_strings_lem b.bytes b.book b.old_places)) ∙ length-drop (p.text + p.normalized) d in
+        let n₃ = ap length (sym (old_strings_lem b.bytes book.held.accepted book.held.is)) ∙ length-drop (p.text.0 + p.normalized.0) d in
         ap (λ (x : Lengths). x.base) sizes ∙ omega (arith, n₁, n₂, n₃, text_length_lem b, normalized_length_lem b)
 
     pub bytes_length : length (bytes_of new) ≡ l.base + length (new_string_bytes none g.1)
     bytes_length = ap length (new_bytes b) ∙ length-append (new.sanitized ++ new.normalized ++ strings_bytes old) (new_string_bytes none g.1) ∙ ap (λ (n : ℕ). n + length (new_string_bytes none g.1)) (sym base_is)
 
   module _ {k : Kept} (kept : k ≡ kept_of w t p) where
-    -- no sum is too large
-    pub small : Small k q
-    unfolding kept_of
-    small =
-        let l = lengths_old b in
-        let m = lengths_read b in
-        let x = limits_old b in
-        let y = limits_read b in
-        rw (kept, kept_nodes, kept_pairs, kept_containers, kept_diagnostics) (record {
-          nodes = few_kept node_located w old.source_nodes x.source_nodes (omega (arith, m.nodes, y.source_nodes));
-          pairs = few_kept pair_located w old.pairs x.pairs (omega (arith, m.pairs, y.pairs));
-          containers = few_kept container_located w old.container_pairs x.container_pairs (omega (arith, m.containers, y.container_pairs));
-          diagnostics = few_kept diagnostic_located w old.diagnostics x.diagnostics (omega (arith, m.diagnostics, y.diagnostics));
-        })
-
     -- how long the new lists are
     pub nodes_length : length new.source_nodes ≡ total_of k.nodes q.nodes.count
     unfolding merged_book kept_of

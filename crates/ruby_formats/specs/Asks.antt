@@ -8,8 +8,8 @@ use Rattle.std.proofs.Math.Bool.{or-false}
 use Rattle.model.specs.Types.{SourceNode}
 use Rattle.model.specs.Tape.{record_at, node_codec}
 use Rattle.model.specs.Region.{is_ruby, is_referenced_format}
-use Rattle.laws.specs.Lists.{both, or_left, or_right}
-use Rattle.wire.specs.Loops.{any_up_to, by_bool}
+use Rattle.facts.specs.Truth.{both, or_left, or_right, by_bool}
+use Rattle.wire.specs.Loops.{any_up_to}
 use Rattle.laws.specs.Nodes.{starts_at}
 
 -- ---- one node

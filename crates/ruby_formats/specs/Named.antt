@@ -4,11 +4,13 @@ use Rattle.std.proofs.Math.Path.{refl, ap}
 use Rattle.std.proofs.Common.{sym, ◌∙◌, arith}
 use Rattle.std.proofs.Math.Bool.{true, false, cond}
 use Rattle.std.proofs.lemmas.Bool.{false≢true}
+use Rattle.std.proofs.lemmas.Option.{none-some}
 use borrow.Author.Tests.{eqb-true}
 use Rattle.model.specs.Types.{SourceNode}
 use Rattle.model.specs.Tape.{record_at, node_codec}
 use Rattle.model.specs.Region.{is_referenced_format, is_ruby, first_plain}
 use Rattle.model.specs.WellFormed.{word_of}
+use Rattle.span.specs.declared.StrId.{StrId}
 use Rattle.store.specs.declared.Store.{Store}
 use Rattle.strings.specs.Starts.{store_in}
 use Rattle.strings.specs.PlainContent.{plain_of, same_known, plain_string, plain_string_lem}
@@ -18,21 +20,18 @@ use Rattle.ruby_formats.specs.Sound.{PlainIn, first_contents}
 -- ---- what a node names
 
 -- a Ruby's base, a Referenced Format's target
-unfoldable pub named_by : List ℕ → ℕ → List ℕ → Option ℕ
+unfoldable pub named_by : List ℕ → ℕ → List ℕ → Option StrId
 named_by t p b =
     cond (is_ruby (record_at node_codec t p)) (plain_of (first_contents t p b)) (cond (is_referenced_format (record_at node_codec t p)) (plain_of (first_contents t p b)) None)
 
-no_id : (id : ℕ) → None ≡ Some id → ⊥
-no_id id q = let z : ◌≡◌ {A = ℕ} 1 0 = cc in omega arith
-
 pub nothing_in : {st : Store} → PlainIn st None
-nothing_in = record { inside = λ id q. absurd (no_id id q) }
+nothing_in = record { inside = λ id q. absurd (none-some id q) }
 
 -- ---- the same id
 
-same_is : (p q : Option ℕ) → same_known p q ≡ true → p ≡ q
+same_is : (p q : Option StrId) → same_known p q ≡ true → p ≡ q
 unfolding same_known
-same_is (Some a) (Some b) e = ap Some (eqb-true a b e)
+same_is (Some a) (Some b) e = ap (λ (n : ℕ). Some (record { 0 = n })) (eqb-true a.0 b.0 e)
 same_is (Some a) None e = absurd (false≢true e)
 same_is None q e = absurd (false≢true e)
 

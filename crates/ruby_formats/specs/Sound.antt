@@ -5,6 +5,7 @@ use Rattle.std.proofs.Math.Path.{ap₂}
 use Rattle.std.proofs.Common.{sym, ap, ◌∙◌, arith}
 use Rattle.std.proofs.Math.ListN.{get_or}
 use Rattle.std.proofs.Math.Dec.{ltb, eqb}
+use Rattle.std.proofs.lemmas.Option.{none-some, same_Some}
 use borrow.Author.Tests.{eqb-true, ltb-true}
 use Rattle.model.specs.Lists.{all}
 use Rattle.model.specs.Types.{Body, Content, Layer, SourceNode}
@@ -12,13 +13,14 @@ use Rattle.model.specs.Store.{string_counts, content_counts, segment_counts, ran
 use Rattle.model.specs.Tape.{Field.content_range, record_at, records_at, node_codec, places, layers_at, field_table, fields_of, node_fields}
 use Rattle.model.specs.WellFormed.{word_of, field_ok, content_ok, node_ok}
 use Rattle.model.specs.Region.{is_ruby, is_referenced_format, first_plain}
-use Rattle.laws.specs.Lists.{both, all_take, all_drop}
+use Rattle.facts.specs.Truth.{both, by_bool}
+use Rattle.facts.specs.Keep.{all_take, all_drop}
 use Rattle.records.specs.Runs.{run_at, run_before}
 use Rattle.records.specs.Values.{body_at, node_body}
+use Rattle.span.specs.declared.StrId.{StrId}
 use Rattle.store.specs.declared.Store.{Store}
 use Rattle.store.specs.Pools.{range_in}
 use Rattle.store.specs.Standing.{string_id_ok, content_range_ok}
-use Rattle.wire.specs.Loops.{by_bool}
 use Rattle.strings.specs.Starts.{store_in}
 use Rattle.strings.specs.declared.lent.Strings.{Strings}
 use Rattle.strings.specs.Lent.{lent_store}
@@ -91,18 +93,15 @@ module _ (ls : List Layer) (n : SourceNode) (h : node_ok ls n ≡ true) where
 
 -- ---- the id of a Plain content
 
-no_id : (i : ℕ) → Some i ≡ None → ⊥
-no_id i q = let z : ◌≡◌ {A = ℕ} 0 1 = cc in omega arith
-
-plain_ok : (ls : List Layer) (cs : List Content) (id : ℕ) → all (content_ok ls) cs ≡ true → Some id ≡ plain_of cs → id_ok (string_counts ls) id ≡ true
+plain_ok : (ls : List Layer) (cs : List Content) (id : StrId) → all (content_ok ls) cs ≡ true → Some id ≡ plain_of cs → id_ok (string_counts ls) id.0 ≡ true
 unfolding plain_of content_ok
-plain_ok ls [] id h e = absurd (no_id id e)
+plain_ok ls [] id h e = absurd (none-some id (sym e))
 plain_ok ls (c ∷ []) id h e = go (eqb c.tag 0) (range_ok (segment_counts ls) c.first c.second) (both (content_ok ls c) true h).0 e
   where
-    go : (x y : Bool) → cond x (id_ok (string_counts ls) c.first) y ≡ true → Some id ≡ cond x (Some c.first) None → id_ok (string_counts ls) id ≡ true
-    go true y a b = let q : id ≡ c.first = cc in ap (id_ok (string_counts ls)) q ∙ a
-    go false y a b = absurd (no_id id b)
-plain_ok ls (c ∷ d ∷ cs) id h e = absurd (no_id id e)
+    go : (x y : Bool) → cond x (id_ok (string_counts ls) c.first) y ≡ true → Some id ≡ cond x (Some (record { 0 = c.first })) None → id_ok (string_counts ls) id.0 ≡ true
+    go true y a b = ap (λ (i : StrId). id_ok (string_counts ls) i.0) (same_Some id (record { 0 = c.first }) b) ∙ a
+    go false y a b = absurd (none-some id (sym b))
+plain_ok ls (c ∷ d ∷ cs) id h e = absurd (none-some id (sym e))
 
 -- ---- what the code knows of one node
 
@@ -111,8 +110,8 @@ pub record FirstRange (t : List ℕ) (st : Store) (p : ℕ) : Type 0 where
   pub is : range_in st.contents st.layers st.totals.contents (word_of (record_at node_codec t p).body 0) (word_of (record_at node_codec t p).body 1) ≡ true
 
 -- an answer's id is one of the store's
-pub record PlainIn (st : Store) (r : Option ℕ) : Type 0 where
-  pub inside : (id : ℕ) → r ≡ Some id → id < st.totals.strings
+pub record PlainIn (st : Store) (r : Option StrId) : Type 0 where
+  pub inside : (id : StrId) → r ≡ Some id → id.0 < st.totals.strings
 
 -- the contents of the range, of any store over these string bytes
 unfoldable pub first_contents : List ℕ → ℕ → List ℕ → List Content
@@ -135,7 +134,7 @@ module _ {ss : Strings} {p : ℕ} (s : SoundNode ss p) where
       (λ e. range_in_lem (ruby_range (layers_of ss) node s.node e))
       (λ e. range_in_lem (format_range (layers_of ss) node s.node (sym (ap (λ (x : Bool). x || is_referenced_format node) e) ∙ h)))
 
-  module _ {r : Option ℕ} (e : (b : List ℕ) → r ≡ plain_of (first_contents ss.tape.now p b)) where
+  module _ {r : Option StrId} (e : (b : List ℕ) → r ≡ plain_of (first_contents ss.tape.now p b)) where
     pub plain_inside : PlainIn ss.store.now r
     unfolding first_contents resolve_content_range id_ok
     plain_inside = record {
@@ -145,11 +144,11 @@ module _ {ss : Strings} {p : ℕ} (s : SoundNode ss p) where
           let n = word_of node.body 1 in
           let ok = all_take (content_ok (layers_of ss)) n (drop from st.contents) (all_drop (content_ok (layers_of ss)) from st.contents s.contents) in
           let i = plain_ok (layers_of ss) (first_contents ss.tape.now p (ss.old.now ++ ss.new.now)) id ok (sym q ∙ e (ss.old.now ++ ss.new.now)) in
-          ltb-true id ss.store.now.totals.strings (string_id_ok ss.tape.now ss.store.now ss.resolvable.sides.store.stored (ss.old.now ++ ss.new.now) id ∙ i);
+          ltb-true id.0 ss.store.now.totals.strings (string_id_ok ss.tape.now ss.store.now ss.resolvable.sides.store.stored (ss.old.now ++ ss.new.now) id.0 ∙ i);
     }
 
 -- what it names, as a string
-pub plain_first : (ss : Strings) (p : ℕ) {r : Option ℕ} → ((b : List ℕ) → r ≡ plain_of (first_contents ss.tape.now p b))
+pub plain_first : (ss : Strings) (p : ℕ) {r : Option StrId} → ((b : List ℕ) → r ≡ plain_of (first_contents ss.tape.now p b))
     → first_plain (lent_store ss) (record_at node_codec ss.tape.now p) ≡ plain_string (lent_store ss) r
 unfolding first_plain first_contents
 plain_first ss p e =
@@ -167,6 +166,6 @@ module _ (t : List ℕ) (p : ℕ) {start len : ℕ} (e : start ≡ word_of (body
   pub words_range : {st : Store} → FirstRange t st p → range_in st.contents st.layers st.totals.contents start len ≡ true
   words_range {st} r = ap₂ (λ (x y : ℕ). range_in st.contents st.layers st.totals.contents x y) first_start first_length ∙ r.is
 
-  pub words_plain : {r : Option ℕ} → ((b : List ℕ) → r ≡ plain_of (resolve_content_range (store_in t b) start len)) → (b : List ℕ) → r ≡ plain_of (first_contents t p b)
+  pub words_plain : {r : Option StrId} → ((b : List ℕ) → r ≡ plain_of (resolve_content_range (store_in t b) start len)) → (b : List ℕ) → r ≡ plain_of (first_contents t p b)
   unfolding first_contents
   words_plain q b = q b ∙ ap₂ (λ (x y : ℕ). plain_of (resolve_content_range (store_in t b) x y)) first_start first_length

@@ -3,8 +3,11 @@
 
 ghost use Rattle.ruby_formats.specs.Sound.{Sound};
 
+use numbers::NODE_SIZE;
 use places::Run;
+use span::{SourceOffset, StrId};
 use strings::Strings;
+use tape::Book;
 
 #[derive(Clone, Copy)]
 pub struct Nodes<'a> {
@@ -20,7 +23,18 @@ impl<'a> Nodes<'a> {
     ghost use Rattle.ruby_formats.specs.Sound.{PlainIn, first_contents};
     ghost use Rattle.strings.specs.PlainContent.{plain_of, same_known};
     ghost use Rattle.ruby_formats.specs.Nodes.{node_in, SameNodes};
+    ghost use Rattle.ruby_formats.specs.Books.{NodesOf};
     ghost use Rattle.ruby_formats.specs.Named.{named_by, base_again, target_again, asks_again};
+
+    // The nodes of an opened book, their strings by no index yet.
+    pub fn of(book: &'a Book) -> Nodes<'a>
+        ensures { NodesOf book.now result }
+    {
+        Nodes {
+            strings: book.strings(),
+            run: book.places.nodes,
+        }
+    }
 
     // The same nodes, whose strings are found by an index that is written into these words. Its five fields are named here and in
     // `representatives`: a method of `Strings` would promise of each but one that it is the same.
@@ -48,7 +62,7 @@ impl<'a> Nodes<'a> {
         ensures place { result ≡ self.now.run.at + 49 * i }
         ensures inside { result + 49 ≤ length self.now.strings.tape.now }
     {
-        self.run.at + 49 * i
+        self.run.at + NODE_SIZE * i
     }
 
     pub fn is_ruby(&self, i: usize) -> bool
@@ -66,16 +80,16 @@ impl<'a> Nodes<'a> {
     }
 
     // Number 10 asks for the target of node i.
-    pub fn asks_target(&self, i: usize, from: u32) -> bool
+    pub fn asks_target(&self, i: usize, from: SourceOffset) -> bool
         requires { i < self.now.run.count }
-        ensures { result ≡ asks_target from (node_in self.now i) }
+        ensures { result ≡ asks_target from.0 (node_in self.now i) }
     {
         crate::asks_target(self.strings.tape, self.at(i), from)
     }
 
     // The contents of the first range of a Ruby or a Referenced Format, if they are one Plain content: the base of the one, the target of the
     // other.
-    pub fn first_plain(&self, i: usize) -> Option<u32>
+    pub fn first_plain(&self, i: usize) -> Option<StrId>
         requires i_lt_count { i < self.now.run.count }
         requires names { names_one (node_in self.now i) ≡ true }
         ensures plain { (b : List ℕ) → result ≡ plain_of (first_contents self.now.strings.tape.now (self.now.run.at + 49 * i) b) }
@@ -90,7 +104,7 @@ impl<'a> Nodes<'a> {
 
     // The string that a Ruby or a Referenced Format names.
     #[tactic(auto, using(crate::specs::Named::nothing_in, crate::specs::Asks::ruby_names, crate::specs::Asks::format_names), unfolding(crate::specs::Named::named_by))]
-    pub fn named(&self, i: usize) -> Option<u32>
+    pub fn named(&self, i: usize) -> Option<StrId>
         requires { i < self.now.run.count }
         ensures named { (b : List ℕ) → result ≡ named_by self.now.strings.tape.now (self.now.run.at + 49 * i) b }
         ensures inside { PlainIn self.now.strings.store.now result }
@@ -133,9 +147,9 @@ impl<'a> Nodes<'a> {
 
     // Does node v behind node i ask for the target of node i by its id? If node i refers to a base, then node v does.
     #[tactic(auto, unfolding(crate::specs::Named::asks_again, crate::specs::Asks::asks_at))]
-    pub fn asks_again(&self, i: usize, v: usize, from: u32) -> bool
+    pub fn asks_again(&self, i: usize, v: usize, from: SourceOffset) -> bool
         requires { i < self.now.run.count }
-        ensures { (b : List ℕ) → result ≡ asks_again from self.now.strings.tape.now self.now.run.at i v self.now.run.count b }
+        ensures { (b : List ℕ) → result ≡ asks_again from.0 self.now.strings.tape.now self.now.run.at i v self.now.run.count b }
     {
         i < v && v < self.run.count && self.asks_target(v, from) && self.same_named(i, v)
     }

@@ -10,8 +10,7 @@ use Rattle.model.specs.Refusal.{Checked, Checked.refused, ◌>>=◌, refuse◌if
 use Rattle.model.specs.Region.{edit_of}
 use Rattle.model.specs.Merge.{Room, IncrementalOutput, merge}
 use Rattle.model.specs.Runs.{part_lengths, asked, program}
-use Rattle.laws.specs.Lists.{both}
-use Rattle.wire.specs.Loops.{by_bool}
+use Rattle.facts.specs.Truth.{both, by_bool}
 use Rattle.lines.specs.Input.{same_word}
 use Rattle.refusal.specs.declared.Refusal.{Refusal}
 use Rattle.refusal.specs.Refusal.{number, number_bounds}

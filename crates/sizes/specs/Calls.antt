@@ -5,13 +5,14 @@ use Rattle.model.specs.Limits.{no_string, max_pool, max_list}
 use Rattle.model.specs.Types.{Body, Content, Segment, SourceNode}
 use Rattle.model.specs.Tape.{fields_of, node_fields, records_at, content_codec, segment_codec, node_codec, places, book_at}
 use Rattle.model.specs.Tree.{shown_nodes}
-use Rattle.wire.specs.Loops.{by_bool}
+use Rattle.facts.specs.Truth.{by_bool}
+use Rattle.laws.specs.Records.{run_length}
 use Rattle.places.specs.declared.Places.{Places}
 use Rattle.places.specs.Found.{found}
-use Rattle.store.specs.Standing.{content_place, segment_place, length_records}
+use Rattle.store.specs.Standing.{content_place, segment_place}
 use Rattle.store.specs.declared.Store.{Store}
-use Rattle.ids.specs.Whole.{ids_in, IdsFit, ids_layers}
-use Rattle.store.specs.Stored.{OfTape}
+use Rattle.ids.specs.Whole.{ids_in, ids_are}
+use Rattle.tape.specs.Held.{Held}
 use Rattle.sizes.specs.Added.{Added, nothing, one_call, new_contents, new_segments, add, add_all}
 use Rattle.sizes.specs.Trees.{nodes_size}
 use Rattle.sizes.specs.Capped.{sizes_in, fits_room_lem, less, less_some, less_none, add_from}
@@ -70,7 +71,7 @@ module _ (inner : Body → Added) (h : (b : Body) → Few 6 (inner b)) (t : List
   unfolding segment_run_adds segments_add
   segment_run_few start len =
       let n = segment_count st start len in
-      few_segments n (rw (length_records segment_codec t (segment_place st start) n) at
+      few_segments n (rw (run_length segment_codec t (segment_place st start) n) at
       (few_items (λ (s : Segment). inner s.body) (λ s. h s.body) (records_at segment_codec t (segment_place st start) n)))
 
   content_few : (c : Content) → Few 6 (content_adds inner t st c)
@@ -81,7 +82,7 @@ module _ (inner : Body → Added) (h : (b : Body) → Few 6 (inner b)) (t : List
   unfolding content_run_adds contents_add
   content_run_few start len =
       let n = content_count st start len in
-      few_contents n (rw (length_records content_codec t (content_place st start) n) at
+      few_contents n (rw (run_length content_codec t (content_place st start) n) at
       (few_items (content_adds inner t st) content_few (records_at content_codec t (content_place st start) n)))
 
   used_few : (f : UsedWords) → Few 1 (used_adds inner t st f)
@@ -111,7 +112,7 @@ module _ (t : List ℕ) (st : Store) where
 
   nodes_few : (at n : ℕ) → Few (6 * n) (nodes_add t st at n)
   unfolding nodes_add
-  nodes_few at n = rw (length_records node_codec t at n) at (few_items (node_adds t st) node_few (records_at node_codec t at n))
+  nodes_few at n = rw (run_length node_codec t at n) at (few_items (node_adds t st) node_few (records_at node_codec t at n))
 
 -- ---- the count of calls is not cut
 
@@ -142,26 +143,27 @@ module _ (m : Room) (k : ℕ) (a : Added) where
       let z : 4294967295 - u.calls ≡ a.calls = omega (arith, ap (λ (v : Left). v.calls) w.1, few) in
       rw w.0 (λ i. Some (record { contents = x i; segments = y i; calls = z i }))
 
--- ---- a whole tape
+-- ---- an opened book
 
-module _ {t : List ℕ} {st : Store} {p : Places} (f : IdsFit t st p) where
-  pub reading_levels : OfTape t st
-  reading_levels = record { stored = f.stored; few = f.few; inside = (ids_layers f).inside }
-
+module _ {t d : List ℕ} {p : Places} {st : Store} (f : Held t d p st) where
   -- what its nodes add
   abbrev own : Added
   own = nodes_add t st p.nodes.at p.nodes.count
 
-  shown_own : ids_in t st ≡ true → (d : List ℕ) → own ≡ nodes_size (shown_nodes (book_at t (places t) d))
+  pub held_ids : ids_in t st ≡ true
+  held_ids = ids_are t st f.stored d ∙ f.accepted.ids
+
+  pub held_adds : own ≡ nodes_size (shown_nodes (book_at t (places t) d))
   unfolding found
-  shown_own h d =
+  held_adds =
       let at = ap (λ (x : Places). x.nodes.at) f.is in
       let count = ap (λ (x : Places). x.nodes.count) f.is in
-      (λ i. nodes_add t st (at i) (count i)) ∙ shown_nodes_add t st f.stored h d
+      (λ i. nodes_add t st (at i) (count i)) ∙ shown_nodes_add t st f.stored held_ids d
 
-  module _ (m : Room) (h : ids_in t st ≡ true) where
-    pub reading_over : None ≡ less (all_left m) own → (d : List ℕ) → None ≡ sizes_in m (nodes_size (shown_nodes (book_at t (places t) d)))
-    reading_over e d = none_in m p.nodes.count own e ∙ ap (sizes_in m) (shown_own h d)
+  -- the returns of `reading_sizes`
+  module _ (m : Room) where
+    pub reading_over : None ≡ less (all_left m) own → None ≡ sizes_in m (nodes_size (shown_nodes (book_at t (places t) d)))
+    reading_over e = none_in m p.nodes.count own e ∙ ap (sizes_in m) held_adds
 
-    pub reading_answer : Limited m p.nodes.count → {u : Left} → Some u ≡ less (all_left m) own → (d : List ℕ) → Some (taken (all_left m) u) ≡ sizes_in m (nodes_size (shown_nodes (book_at t (places t) d)))
-    reading_answer l e d = some_in m p.nodes.count own l (nodes_few t st p.nodes.at p.nodes.count) e ∙ ap (sizes_in m) (shown_own h d)
+    pub reading_answer : Limited m p.nodes.count → {u : Left} → Some u ≡ less (all_left m) own → Some (taken (all_left m) u) ≡ sizes_in m (nodes_size (shown_nodes (book_at t (places t) d)))
+    reading_answer l e = some_in m p.nodes.count own l (nodes_few t st p.nodes.at p.nodes.count) e ∙ ap (sizes_in m) held_adds

@@ -5,8 +5,7 @@ use Rattle.std.proofs.Common.{ap₂, ◌∙◌, add-zero, arith}
 use Rattle.std.proofs.Math.Bool.{and-false}
 use borrow.Author.Tests.{le-leb, lt-leb, leb-true, leb-false}
 use Rattle.model.specs.Lists.{tabulate}
-use Rattle.laws.specs.Lists.{both}
-use Rattle.wire.specs.Loops.{by_bool}
+use Rattle.facts.specs.Truth.{leb_left, both, by_bool}
 use Rattle.sizes.specs.Added.{Added, nothing, add, add_all, add_nothing}
 use Rattle.sizes.specs.declared.Room.{Room}
 use Rattle.sizes.specs.declared.Left.{Left}
@@ -73,12 +72,6 @@ less_nothing t =
     let y : t.segments - 0 ≡ t.segments = omega arith in
     let z : t.calls - 0 ≡ t.calls = omega arith in
     rw (le-leb 0 t.contents (omega arith), le-leb 0 t.segments (omega arith)) (λ i. Some (record { contents = x i; segments = y i; calls = z i }))
-
-leb_left : (a b n : ℕ) → a ≤ n → leb b (n - a) ≡ leb (a + b) n
-leb_left a b n h =
-    by_bool (leb (a + b) n)
-    (λ q. let l = leb-true (a + b) n q in le-leb b (n - a) (omega (arith, l, h)) ∙ sym q)
-    (λ q. let l = leb-false (a + b) n q in lt-leb b (n - a) (omega (arith, l, h)) ∙ sym q)
 
 fits_then : (t : Left) (a b : Added) → fits (room_of t) a ≡ true → fits (room_of (remainder t a)) b ≡ fits (room_of t) (add a b)
 unfolding fits add

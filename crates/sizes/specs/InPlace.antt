@@ -12,7 +12,7 @@ use Rattle.model.specs.Types.{Body, Content, Segment, SourceNode}
 use Rattle.model.specs.WellFormed.{word_of}
 use Rattle.model.specs.Tape.{Field, Field.str, Field.opt_str, Field.content_range, Field.seg_range, fields_of, node_fields}
 use Rattle.model.specs.Tape.{Codec, record_size, record_at, records_at, content_codec, segment_codec, node_codec}
-use Rattle.wire.specs.Loops.{by_bool}
+use Rattle.facts.specs.Truth.{by_bool}
 use Rattle.records.specs.Values.{body_at}
 use Rattle.records.specs.Uses.{word_use}
 use Rattle.store.specs.Standing.{content_place, segment_place, content_inside, segment_inside}

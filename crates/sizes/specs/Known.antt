@@ -6,7 +6,7 @@ use borrow.Author.Tests.{lt-ltb, le-ltb, eq-eqb, ne_eqb, eqb-false}
 use Rattle.model.specs.Bytes.{byte_at, zeros}
 use Rattle.model.specs.Types.{Body}
 use Rattle.model.specs.Tape.{record_at, segment_codec, fields_of, field_table}
-use Rattle.wire.specs.Loops.{by_bool}
+use Rattle.facts.specs.Truth.{by_bool}
 use Rattle.records.specs.Values.{body_at, segment_body}
 use Rattle.store.specs.declared.Store.{Store}
 use Rattle.memo.specs.Memo.{Entry, entry_in, is_of, put_in, none_in, every_put, is_place, is_level}

@@ -3,7 +3,8 @@ use Rattle.std.specs.Prelude.{◌≡◌, ℕ, ◌+◌, ◌≤◌, true, List, ge
 use Rattle.std.proofs.Math.Path.{refl}
 use Rattle.std.proofs.Common.{arith}
 use borrow.Author.Tests.{le-leb}
-use Rattle.wire.specs.Loops.{by_bool, any_up_to}
+use Rattle.facts.specs.Truth.{by_bool}
+use Rattle.wire.specs.Loops.{any_up_to}
 use Rattle.store.specs.Pools.{range_in, in_one, in_layer, layer_of}
 
 module _ (starts : List ℕ) (layers : ℕ) (one : layers ≡ 1) (first : get_or starts 0 0 ≡ 0) where

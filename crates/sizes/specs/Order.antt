@@ -2,8 +2,8 @@
 -- six places; Gaiji's mencode, word 1, comes before its hint, and Illustration's caption, word 4, before its description.
 use Rattle.std.specs.Prelude.{◌≡◌, refl, ℕ, zero, suc, ◌+◌, ◌%◌, cond, List, [], ◌∷◌, ◌++◌, get_or, leb, eqb}
 use Rattle.model.specs.Tape.{Field, Field.str, Field.opt_str, Field.content_range, Field.seg_range, field_table}
+use Rattle.facts.specs.Truth.{by_bool}
 use Rattle.records.specs.Uses.{use_of, use_in, word_use}
-use Rattle.wire.specs.Loops.{by_bool}
 
 -- Section 5. Fields go in the Rust's order: which word comes at place j.
 unfoldable pub field_word : ℕ → ℕ → ℕ

@@ -8,12 +8,12 @@ use Rattle.model.specs.Bytes.{byte_at}
 use Rattle.model.specs.Types.{Body, Content}
 use Rattle.model.specs.WellFormed.{word_of}
 use Rattle.model.specs.Tape.{record_at, records_at, content_codec, node_codec, fields_of, field_table, node_fields}
-use Rattle.laws.specs.Lists.{both}
-use Rattle.wire.specs.Loops.{by_bool}
+use Rattle.facts.specs.Truth.{both, by_bool}
+use Rattle.laws.specs.Records.{run_length}
 use Rattle.records.specs.Values.{body_at, node_body}
 use Rattle.places.specs.declared.Run.{Run}
 use Rattle.store.specs.Pools.{range_in}
-use Rattle.store.specs.Standing.{content_place, length_records}
+use Rattle.store.specs.Standing.{content_place}
 use Rattle.store.specs.Stored.{OfTape}
 use Rattle.store.specs.declared.Store.{Store}
 use Rattle.ids.specs.Tests.{contents_in}
@@ -109,7 +109,7 @@ module _ (inner : Body → Added) (t : List ℕ) (st : Store) (p : Run) (w : Who
       let n = eqb-false len 0 z in
       let m = above_zero len n in
       let q = w.place start (omega (arith, m, inside)) in
-      rw (w.range start len inside, q, plain_all inner t st _ b.1, length_records content_codec t (p.at + 10 * start) len) (same_added (omega arith) refl (omega arith)))
+      rw (w.range start len inside, q, plain_all inner t st _ b.1, run_length content_codec t (p.at + 10 * start) len) (same_added (omega arith) refl (omega arith)))
 
 -- ---- a Ruby
 

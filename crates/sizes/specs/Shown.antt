@@ -15,11 +15,12 @@ use Rattle.model.specs.WellFormed.{word_of}
 use Rattle.model.specs.Tape.{Field, Field.str, Field.opt_str, Field.content_range, Field.seg_range, fields_of, node_fields}
 use Rattle.model.specs.Tape.{records_at, content_codec, segment_codec, node_codec, places, layers_at, book_at}
 use Rattle.model.specs.Tree.{Tree, Tree.tree, Fields.done, show_segments, show_contents, show_fields, show_with, show_body, show_node, shown_node, shown_nodes}
-use Rattle.laws.specs.Lists.{both, all_take, all_drop}
+use Rattle.facts.specs.Truth.{both, by_bool}
+use Rattle.facts.specs.Keep.{all_take, all_drop}
+use Rattle.laws.specs.Records.{run_length}
 use Rattle.laws.specs.Layers.{ids_pools}
-use Rattle.wire.specs.Loops.{by_bool}
 use Rattle.store.specs.Stored.{store_at}
-use Rattle.store.specs.Standing.{content_place, segment_place, content_range_lem, segment_range, length_records}
+use Rattle.store.specs.Standing.{content_place, segment_place, content_range_lem, segment_range}
 use Rattle.store.specs.declared.Store.{Store}
 use Rattle.ids.specs.Tests.{contents_in, segments_in, field_in, body_in, content_in, segment_in, node_in}
 use Rattle.ids.specs.Whole.{content_ok_lem, segment_ok_lem, ids_are, ids_in, layers_in}
@@ -72,7 +73,7 @@ module _ (t : List ℕ) (st : Store) (e : st ≡ store_at t) (d : List ℕ) wher
       segment_run_agrees start len h =
           let run = take len (drop start shown_store.segments) in
           let is : run ≡ records_at segment_codec t (segment_place st start) len = segment_range t st e d start len h in
-          let n : segments_length (show_segments show run) ≡ len = segments_shown show run ∙ ap length is ∙ length_records segment_codec t (segment_place st start) len in
+          let n : segments_length (show_segments show run) ≡ len = segments_shown show run ∙ ap length is ∙ run_length segment_codec t (segment_place st start) len in
           let f : Segment → Added = λ s. inner s.body in
           rw h (ap₂ (λ (k : ℕ) (x : Added). run_of_segments k x) n
           (segments_agree run (all_take (segment_in st) len (drop start shown_store.segments) (all_drop (segment_in st) start shown_store.segments segments_ok)) ∙ ap (add_all f) is))
@@ -101,7 +102,7 @@ module _ (t : List ℕ) (st : Store) (e : st ≡ store_at t) (d : List ℕ) wher
             let run = take len (drop start shown_store.contents) in
             let is : run ≡ records_at content_codec t (content_place st start) len = content_range_lem t st e d start len h in
             let n : contents_length (show_contents show shown_store run) ≡ len =
-            contents_shown show shown_store run ∙ ap length is ∙ length_records content_codec t (content_place st start) len in
+            contents_shown show shown_store run ∙ ap length is ∙ run_length content_codec t (content_place st start) len in
             rw h (ap₂ (λ (k : ℕ) (x : Added). run_of_contents k x) n
             (contents_agree run (all_take (content_in st) len (drop start shown_store.contents) (all_drop (content_in st) start shown_store.contents contents_ok))
             ∙ ap (add_all (content_adds inner t st)) is))

@@ -9,14 +9,14 @@
 
 mod lent;
 
-ghost use Rattle.std.specs.Prelude.{◌≡◌, ℕ, ◌+◌, ◌*◌, ◌≤◌, ◌<◌, ◌^◌, true, List, length, Option, Some};
+ghost use Rattle.std.specs.Prelude.{◌≡◌, ℕ, ◌+◌, ◌*◌, ◌≤◌, ◌<◌, ◌^◌, length, Option, Some};
 ghost use Rattle.model.specs.Lists.{all};
 ghost use Rattle.model.specs.WellFormed.{word_of};
-ghost use Rattle.model.specs.Tape.{record_at, records_at, content_codec, segment_codec, node_codec, places, book_at};
+ghost use Rattle.model.specs.Tape.{record_at, records_at, content_codec, segment_codec, node_codec};
 ghost use Rattle.model.specs.Tree.{shown_nodes};
 ghost use Rattle.records.specs.Values.{body_at};
 ghost use Rattle.memo.specs.Memo.{entry_in};
-ghost use Rattle.ids.specs.Whole.{IdsFit, ids_in};
+ghost use Rattle.tape.specs.StringBytes.{book_of};
 ghost use Rattle.sizes.specs.Trees.{nodes_size};
 ghost use Rattle.sizes.specs.Order.{field_word};
 ghost use Rattle.sizes.specs.Capped.{sizes_in, less};
@@ -33,9 +33,12 @@ ghost use Rattle.sizes.specs.InPlace.{content_adds, contents_add, content_run_ad
 
 use ids::NO_STRING;
 pub use lent::Walk;
+use numbers::{CONTENT_SIZE, NODE_SIZE, SEGMENT_SIZE, STRING_SIZE};
 use places::Run;
 use records::{RUBY, TEXT, Use};
+use span::StrId;
 use store::Store;
+use tape::Book;
 
 // How many contents and segments may still be added.
 #[derive(Clone, Copy)]
@@ -170,7 +173,7 @@ fn string_sizes(left: Left, usage: Use, w: u32) -> Option<Left>
 {
     match usage {
         Use::Str => less(left, 0, 0, 1),
-        Use::OptStr => if w == NO_STRING {
+        Use::OptStr => if StrId(w) == NO_STRING {
             Some(left)
         } else {
             less(left, 0, 0, 1)
@@ -271,8 +274,8 @@ fn contents_walk(w: &Walk<'_>, memo: &mut [u32], left: Left, run: Run, level: u8
     let mut i = 0;
     // Contents that are alike are passed at once: i rises by how many they are.
     while i < run.count {
-        let next = content_sizes(w, memo, u, run.at + 10 * i, level)?;
-        let k = alike::contents_alike(w.tape, run.at + 10 * i, run.count - i - 1);
+        let next = content_sizes(w, memo, u, run.at + CONTENT_SIZE * i, level)?;
+        let k = alike::contents_alike(w.tape, run.at + CONTENT_SIZE * i, run.count - i - 1);
         u = again(u, next, k)?;
         i += 1 + k;
     }
@@ -292,8 +295,10 @@ fn lone_place(st: &Store, i: u32) -> Option<usize>
     if st.totals.segments <= i {
         return None;
     }
-    let before = 10 + 5 * st.totals.strings as usize + 10 * st.totals.contents as usize;
-    Some(before + 37 * i as usize)
+    let before = 10
+        + STRING_SIZE * st.totals.strings as usize
+        + CONTENT_SIZE * st.totals.contents as usize;
+    Some(before + SEGMENT_SIZE * i as usize)
 }
 
 // Section 5. Plain is a string, Segments a run; one of a single segment is that segment.
@@ -353,8 +358,8 @@ fn segments_walk(w: &Walk<'_>, memo: &mut [u32], left: Left, run: Run, level: u8
     let mut i = 0;
     // As for contents, i rises by how many are alike.
     while i < run.count {
-        let next = segment_sizes(w, memo, u, run.at + 37 * i, level)?;
-        let k = alike::segments_alike(w.tape, run.at + 37 * i, run.count - i - 1);
+        let next = segment_sizes(w, memo, u, run.at + SEGMENT_SIZE * i, level)?;
+        let k = alike::segments_alike(w.tape, run.at + SEGMENT_SIZE * i, run.count - i - 1);
         u = again(u, next, k)?;
         i += 1 + k;
     }
@@ -448,7 +453,7 @@ fn plain_contents(tape: &[u8], run: Run) -> bool
     requires { run.at + 10 * run.count ≤ length tape.now }
     ensures { result ≡ all is_plain (records_at content_codec tape.now run.at run.count) }
 {
-    (0..run.count).all(|i| records::content_at(tape, run.at + 10 * i).is_plain())
+    (0..run.count).all(|i| records::content_at(tape, run.at + CONTENT_SIZE * i).is_plain())
 }
 
 // A range of these contents, all of them plain.
@@ -462,7 +467,7 @@ fn plain_run(tape: &[u8], own: Run, start: u32, len: u32) -> bool
         return false;
     }
     let run = Run {
-        at: own.at + 10 * from,
+        at: own.at + CONTENT_SIZE * from,
         count: n,
     };
     plain_contents(tape, run)
@@ -532,7 +537,7 @@ fn nodes_sizes(w: &Walk<'_>, memo: &mut [u32], left: Left, run: Run) -> Option<L
     let own = only_contents(w);
     let mut u = left;
     for i in 0..run.count {
-        u = node_sizes(w, own, memo, u, run.at + 49 * i)?;
+        u = node_sizes(w, own, memo, u, run.at + NODE_SIZE * i)?;
     }
     Some(u)
 }
@@ -558,20 +563,21 @@ fn nodes_left(w: &Walk<'_>, left: Left, run: Run) -> Option<Left>
     nodes_sizes(w, &mut memo[..], left, run)
 }
 
-// Section 5. What the nodes of a tape with these places and this store add, whatever the bytes of its texts are.
-pub fn reading_sizes(tape: &[u8], st: Store, p: places::Places, room: Room) -> Option<Sizes>
-    requires ids_fit { IdsFit tape.now st p }
-    requires st_value { ids_in tape.now st ≡ true }
-    requires limited { Limited room p.nodes.count }
-    ensures { (d : List ℕ) → result ≡ sizes_in room (nodes_size (shown_nodes (book_at tape.now (places tape.now) d))) }
+// Section 5. What the nodes of an opened book add, a reading or a book that is flattened.
+pub fn reading_sizes(source: &Book, room: Room) -> Option<Sizes>
+    requires { Limited room source.now.places.nodes.count }
+    ensures { result ≡ sizes_in room (nodes_size (shown_nodes (book_of source.now))) }
 {
-    let w = Walk { tape, st: &st };
+    let w = Walk {
+        tape: source.tape,
+        st: &source.store,
+    };
     // written out: nothing else makes a `Left` of a `Room`
     let all = Left {
         contents: room.contents,
         segments: room.segments,
         calls: MOST,
     };
-    let left = nodes_left(&w, all, p.nodes)?;
+    let left = nodes_left(&w, all, source.places.nodes)?;
     Some(taken(all, left))
 }

@@ -1,6 +1,6 @@
 -- Laws of shifts, by the amount's sign: one for each way that the code returns.
 use Rattle.std.specs.Prelude.{ℕ, zero, suc, ◌+◌, ◌-◌, ◌≤◌, ◌<◌, ◌^◌, min, ◌≡◌, Bool, true, false, cond, leb, pos, negsuc, ◌-ℤ◌}
-use Rattle.std.proofs.Common.{refl, sym, ◌∙◌, arith, add-zero, leb-true}
+use Rattle.std.proofs.Common.{refl, ◌∙◌, arith, add-zero, leb-true}
 use Rattle.std.proofs.Math.Bool.{and-false}
 use Rattle.std.proofs.Math.Option.{none, some}
 use borrow.Author.Tests.{lt-ltb, le-ltb, le-leb, lt-leb}
@@ -78,12 +78,3 @@ module _ (x n : ℕ) where
 pub sub_signs : (a b : ℕ) → pos a -ℤ pos b ≡ sub_ℕ a b
 sub_signs a zero = rw (le-ltb a 0 (omega arith), sub-zero, add-zero) refl
 sub_signs a (suc b) = refl
-
-module _ (a b : ℕ) where
-  pub difference_back : a < b → negsuc (b - a - 1) ≡ pos a -ℤ pos b
-  difference_back h =
-      let e : b - suc a ≡ b - a - 1 = omega arith in
-      sym (sub_signs a b ∙ rw (lt-ltb a b h, e) refl)
-
-  pub difference_forward : b ≤ a → pos (a - b) ≡ pos a -ℤ pos b
-  difference_forward h = sym (sub_signs a b ∙ rw (le-ltb a b h) refl)

@@ -2,9 +2,8 @@
 use Rattle.std.specs.Prelude.{◌≡◌, ℕ, ◌≤◌, ℤ, pos, negsuc, Option, Some, None, Result, MatchResult}
 use Rattle.std.proofs.Math.Option as maybe
 use Rattle.model.specs.Offset as model
-use Rattle.model.specs.Types as model-types
 use Rattle.span.specs.declared.Span.{Span}
-use Rattle.span.specs.declared.PairLink.{PairLink}
+use Rattle.span.specs.declared.NormalizedSpan.{NormalizedSpan}
 use Rattle.span.specs.declared.Amount.{Amount}
 use Rattle.span.specs.declared.Amount.TheVariants.{Forward, Back}
 use Rattle.span.specs.declared.PairKind.{PairKind}
@@ -12,7 +11,10 @@ use Rattle.span.specs.declared.PairKind.TheVariants.{Bracket, Ruby, AngleQuote, 
 use Rattle.span.specs.declared.UnknownPairKind.{UnknownPairKind}
 
 abbrev pub span_of : Span → model.Span
-span_of s = record { start = s.start; end = s.end }
+span_of s = record { start = s.start.0; end = s.end.0 }
+
+abbrev pub normalized_span_of : NormalizedSpan → model.Span
+normalized_span_of s = record { start = s.start.0; end = s.end.0 }
 
 -- a signed number: `Back n` is -(n + 1), so that each has one form
 abbrev pub value_of : Amount → ℤ
@@ -34,6 +36,3 @@ kind_number Quote = 4
 -- the kind of a number, or an error where no kind has it
 abbrev pub IsKindOf : ℕ → Result PairKind UnknownPairKind → Type 0
 IsKindOf n r = MatchResult r (λ k. kind_number k ≡ n) (λ e. 5 ≤ n)
-
-abbrev pub pair_of : PairLink → model-types.PairLink
-pair_of p = record { kind = kind_number p.kind; opening = span_of p.opening; closing = span_of p.closing }

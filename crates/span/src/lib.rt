@@ -1,12 +1,12 @@
 // Document 01, section 1: source offsets and normalized offsets are two measures of two texts, and a string id is neither, so
-// each is a type of its own and nothing here converts one to another. A span is two offsets. Spans and numbers are moved by a
-// signed 64-bit amount, on every input as the model's `shifted` and `shift_u32` say. A signed number is taken apart once, into
-// an `Amount`; all arithmetic below is unsigned. specs/Values.antt has the model's value of each type.
+// each is a type of its own and nothing here converts one to another. A span is two offsets of one text. Spans and numbers are
+// moved by a signed 64-bit amount, on every input as the model's `shifted` and `shift_u32` say: the amount is taken apart once,
+// into an `Amount`, and the moving is unsigned. specs/Values.antt has the model's value of each type.
 #![tactic(auto)]
 
-ghost use Rattle.std.specs.Prelude.{◌≡◌, ◌-◌, ◌<◌, eqb, pos, ◌-ℤ◌};
+ghost use Rattle.std.specs.Prelude.{◌≡◌, ◌<◌, ◌^◌, eqb, pos, ◌-ℤ◌};
 ghost use Rattle.model.specs.Offset as model;
-ghost use Rattle.span.specs.Values.{span_of, value_of, option_of, kind_number, IsKindOf};
+ghost use Rattle.span.specs.Values.{span_of, value_of, option_of, IsKindOf};
 
 // An offset in the bytes of a source text.
 #[derive(Clone, Copy, Debug, PartialEq, Eq, PartialOrd, Ord, Hash)]
@@ -21,14 +21,13 @@ pub struct NormalizedOffset(pub u32);
 pub struct StrId(pub u32);
 
 // A signed amount: Forward(n) is n, Back(n) is -(n + 1).
-#[derive(Clone, Copy, Debug, PartialEq, Eq, Hash)]
-pub enum Amount {
+#[derive(Clone, Copy)]
+enum Amount {
     Forward(u64),
     Back(u64),
 }
 
-// Only this function touches a signed number. Both callers name it; a `From` would state this one clause as `from_gives`, for the same body.
-pub fn amount_of(by: i64) -> Amount
+fn amount_of(by: i64) -> Amount
     ensures { value_of result ≡ by }
 {
     if by < 0 {
@@ -39,17 +38,15 @@ pub fn amount_of(by: i64) -> Amount
 }
 
 // a - b
-pub fn difference(a: u64, b: u64) -> Amount
-    ensures { value_of result ≡ pos a -ℤ pos b }
+pub fn difference(a: u64, b: u64) -> i64
+    requires { (a < 2 ^ 63) × (b < 2 ^ 63) }
+    ensures { result ≡ pos a -ℤ pos b }
 {
-    if a < b {
-        Amount::Back(b - a - 1)
-    } else {
-        Amount::Forward(a - b)
-    }
+    a as i64 - b as i64
 }
 
-pub fn shift_clamp(endpoint: u32, by: Amount) -> u32
+// The number, moved and clamped to 0..4294967295.
+fn shift_clamp(endpoint: u32, by: Amount) -> u32
     ensures { result ≡ model.shift_clamp endpoint (value_of by) }
 {
     match by {
@@ -67,7 +64,7 @@ pub fn shift_clamp(endpoint: u32, by: Amount) -> u32
 }
 
 // `shift_u32` by an amount that is taken apart already.
-pub fn shift_by(value: u32, by: Amount) -> Option<u32>
+fn shift_by(value: u32, by: Amount) -> Option<u32>
     ensures { option_of result ≡ model.shift_u32 value (value_of by) }
 {
     match by {
@@ -76,52 +73,42 @@ pub fn shift_by(value: u32, by: Amount) -> Option<u32>
     }
 }
 
+// The number, moved: none outside 0..4294967295.
 pub fn shift_u32(value: u32, delta: i64) -> Option<u32>
     ensures { option_of result ≡ model.shift_u32 value delta }
 {
     shift_by(value, amount_of(delta))
 }
 
+// A span of a source text.
 #[derive(Clone, Copy, Debug, PartialEq, Eq, Hash)]
 pub struct Span {
-    pub start: u32,
-    pub end: u32,
+    pub start: SourceOffset,
+    pub end: SourceOffset,
+}
+
+// A span of a normalized text.
+#[derive(Clone, Copy, Debug, PartialEq, Eq, Hash)]
+pub struct NormalizedSpan {
+    pub start: NormalizedOffset,
+    pub end: NormalizedOffset,
 }
 
 impl Span {
-    pub fn new(start: u32, end: u32) -> Self
-        ensures { (result.start ≡ start) × (result.end ≡ end) }
-    {
-        Self { start, end }
-    }
-
-    // 0 where the end lies before the start: there the Rust panics or wraps, by its build.
-    pub fn len(self) -> u32
-        ensures { result ≡ self.end - self.start }
-    {
-        self.end.saturating_sub(self.start)
-    }
-
     pub fn is_empty(self) -> bool
-        ensures { result ≡ eqb self.start self.end }
+        ensures { result ≡ eqb self.start.0 self.end.0 }
     {
         self.start == self.end
-    }
-
-    // `shifted` by an amount that is taken apart already.
-    pub fn shifted_by(self, by: Amount) -> Self
-        ensures { span_of result ≡ model.shifted (span_of self) (value_of by) }
-    {
-        Self {
-            start: shift_clamp(self.start, by),
-            end: shift_clamp(self.end, by),
-        }
     }
 
     pub fn shifted(self, by: i64) -> Self
         ensures { span_of result ≡ model.shifted (span_of self) by }
     {
-        self.shifted_by(amount_of(by))
+        let by = amount_of(by);
+        Self {
+            start: SourceOffset(shift_clamp(self.start.0, by)),
+            end: SourceOffset(shift_clamp(self.end.0, by)),
+        }
     }
 }
 
@@ -139,21 +126,6 @@ pub enum PairKind {
 #[derive(Clone, Copy, Debug, PartialEq, Eq, Hash)]
 pub struct UnknownPairKind(pub u8);
 
-// A match beside that of `try_from`. With the numbers at the variants there would be two lists all the same, since `try_from` needs its own.
-impl From<PairKind> for u8 {
-    ghost from_gives = { λ kind n. n ≡ kind_number kind };
-
-    fn from(kind: PairKind) -> u8 {
-        match kind {
-            PairKind::Bracket => 0,
-            PairKind::Ruby => 1,
-            PairKind::AngleQuote => 2,
-            PairKind::Tortoise => 3,
-            PairKind::Quote => 4,
-        }
-    }
-}
-
 impl TryFrom<u8> for PairKind {
     type Error = UnknownPairKind;
 
@@ -167,43 +139,6 @@ impl TryFrom<u8> for PairKind {
             3 => Ok(PairKind::Tortoise),
             4 => Ok(PairKind::Quote),
             _ => Err(UnknownPairKind(n)),
-        }
-    }
-}
-
-impl PairKind {
-    // The conversions by names. They are public, so they stay with what they promise; each is one line over the two above.
-    pub fn number(self) -> u8
-        ensures { result ≡ kind_number self }
-    {
-        self.into()
-    }
-
-    // `try_from` of a number that is known to be one.
-    pub fn from_number(n: u8) -> Self
-        requires { n < 5 }
-        ensures { kind_number result ≡ n }
-    {
-        PairKind::try_from(n).unwrap()
-    }
-}
-
-// `open` and `close` in the Rust; `open` is a word of antt. A tape's record is `records::PairLink`: its kind may be any byte.
-#[derive(Clone, Copy, Debug, PartialEq, Eq, Hash)]
-pub struct PairLink {
-    pub kind: PairKind,
-    pub opening: Span,
-    pub closing: Span,
-}
-
-impl PairLink {
-    pub fn new(kind: PairKind, opening: Span, closing: Span) -> Self
-        ensures { (result.kind ≡ kind) × (result.opening ≡ opening) × (result.closing ≡ closing) }
-    {
-        Self {
-            kind,
-            opening,
-            closing,
         }
     }
 }

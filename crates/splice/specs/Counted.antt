@@ -1,21 +1,15 @@
--- Whether a record is in a part, by the words of its start and end; and room for a part.
-use Rattle.std.specs.Prelude.{◌≡◌, Bool}
+-- Where the records of a run stand, and room for a part.
+use Rattle.std.specs.Prelude.{◌≡◌}
 use Rattle.std.proofs.Common.{mul-suc, mul-le-mul_left}
 use Prim.Native.Nat.{ℕ, ◌+◌, ◌*◌, ◌≤◌, ◌<◌}
 use native.Mathlib.Omega.{arith}
 use mathlib.Core.List.{List}
 use Rattle.std.proofs.Math.ListN.{length, length-map}
-use Rattle.model.specs.Bytes.{word_at}
 use Rattle.model.specs.Tape.{Codec, records_at}
 use Rattle.model.specs.Merge.{MergeWindow, Located, kept_before, kept_behind}
-use Rattle.records.specs.Runs.{run_length}
-use Rattle.splice.specs.Parts.{span_in, part_of, part_before, part_reading, part_behind}
-use Rattle.splice.specs.declared.Part.{Part}
+use Rattle.laws.specs.Records.{run_length}
+use Rattle.splice.specs.Parts.{part_of, part_before, part_reading, part_behind}
 use Rattle.splice.specs.declared.Part.TheVariants.{Before, Reading, Behind}
-
--- the same of a record at q, whose words at `first` and `last` are its start and its end less `extra`
-unfoldable pub row_in : List ℕ → ℕ → ℕ → ℕ → ℕ → ℕ → Part → ℕ → Bool
-row_in t first last extra from to p q = span_in p (word_at t (q + first)) (word_at t (q + last) + extra) from to
 
 -- each record of a run lies inside it
 pub place_in : (at z i n q : ℕ) → q ≡ at + z * i → i < n → q + z ≤ at + z * n

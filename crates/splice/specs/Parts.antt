@@ -11,24 +11,25 @@ use Rattle.std.specs.List.{filter, range_with_len}
 use Rattle.model.specs.Lists.{keep, tabulate}
 use Rattle.model.specs.Tape.{Codec, record_size, record_at, records_at, record_bytes, records_bytes}
 use Rattle.model.specs.Merge.{MergeWindow, Located, kept_before, kept_behind}
-use Rattle.laws.specs.Lists.{map_append}
-use Rattle.laws.specs.Keep.{keep_append}
+use Rattle.facts.specs.Truth.{by_bool}
+use Rattle.facts.specs.Lists.{map_append}
+use Rattle.facts.specs.Keep.{keep_append}
+use Rattle.laws.specs.Parts.{bytes_append}
 use Rattle.wire.specs.Overwrite.{overwrite, Wrote, wrote_none, wrote_next, overwrite_nil, length_overwrite}
-use Rattle.wire.specs.Loops.{by_bool}
 use Rattle.splice.specs.declared.Part.{Part}
 use Rattle.splice.specs.declared.Part.TheVariants.{Before, Reading, Behind}
-use Rattle.put_records.specs.Runs.{records_more, records_parts, bytes_append}
+use Rattle.put_records.specs.Runs.{records_more, records_parts}
 
 -- is what lies from start to end in this part, with the region from `from` to `to`?
-unfoldable pub span_in : Part → ℕ → ℕ → ℕ → ℕ → Bool
-span_in Before start end from to = leb end from
-span_in Reading start end from to = true
-span_in Behind start end from to = leb to start
+unfoldable pub lies_in : Part → ℕ → ℕ → ℕ → ℕ → Bool
+lies_in Before start end from to = leb end from
+lies_in Reading start end from to = true
+lies_in Behind start end from to = leb to start
 
 module _ {A : Type 0} (l : Located A) (w : MergeWindow) where
   -- is an element of the list in this part, and how does it stand there?
   unfoldable pub is_in : Part → A → Bool
-  is_in p x = span_in p (l.place x).start (l.place x).end (l.window w).start (l.window w).end
+  is_in p x = lies_in p (l.place x).start (l.place x).end (l.window w).start (l.window w).end
 
   unfoldable pub as_in : Part → A → A
   as_in Before x = x
@@ -39,7 +40,7 @@ module _ {A : Type 0} (l : Located A) (w : MergeWindow) where
   part_of p xs = map (as_in p) (keep (is_in p) xs)
 
   pub part_before : (xs : List A) → part_of Before xs ≡ kept_before l w xs
-  unfolding part_of as_in is_in span_in kept_before
+  unfolding part_of as_in is_in lies_in kept_before
   part_before xs = same (keep (is_in Before) xs)
     where
       same : (ys : List A) → map (as_in Before) ys ≡ ys
@@ -47,7 +48,7 @@ module _ {A : Type 0} (l : Located A) (w : MergeWindow) where
       same (y ∷ ys) = ap (λ (k : List A). y ∷ k) (same ys)
 
   pub part_reading : (xs : List A) → part_of Reading xs ≡ map (l.placed w) xs
-  unfolding part_of as_in is_in span_in
+  unfolding part_of as_in is_in lies_in
   part_reading xs = ap (map (l.placed w)) (same xs)
     where
       same : (ys : List A) → keep (is_in Reading) ys ≡ ys
@@ -55,7 +56,7 @@ module _ {A : Type 0} (l : Located A) (w : MergeWindow) where
       same (y ∷ ys) = ap (λ (k : List A). y ∷ k) (same ys)
 
   pub part_behind : (xs : List A) → part_of Behind xs ≡ map (l.moved w) (kept_behind l w xs)
-  unfolding part_of as_in is_in span_in kept_behind
+  unfolding part_of as_in is_in lies_in kept_behind
   part_behind xs = refl
 
   part_append : (p : Part) (xs ys : List A) → part_of p (xs ++ ys) ≡ part_of p xs ++ part_of p ys

@@ -1,21 +1,16 @@
 -- The three parts one behind the other are section 7's splice; how long each is; and records that stand in a result, read.
-use Rattle.std.specs.Prelude.{◌≡◌, ℕ, ◌+◌, ◌*◌, ◌≤◌, true, length}
-use Rattle.std.proofs.Math.Path.{refl, sym, ap, ap₂}
+use Rattle.std.specs.Prelude.{◌≡◌, ℕ, ◌+◌, ◌*◌, ◌≤◌, length}
+use Rattle.std.proofs.Math.Path.{sym, ap}
 use Rattle.std.proofs.Common.{◌∙◌, arith}
-use mathlib.Core.List.{List, [], ◌∷◌, ◌++◌, append_assoc, map, flatten}
+use mathlib.Core.List.{List, ◌++◌, append_assoc, map}
 use Rattle.std.proofs.Math.ListN.{length-append, length-map}
-use Rattle.model.specs.Lists.{all}
-use Rattle.model.specs.Tape.{Codec, record_size, records_at, record_bytes, records_bytes}
+use Rattle.model.specs.Tape.{Codec, records_at, records_bytes}
 use Rattle.model.specs.Merge.{MergeWindow, Located, kept_before, kept_behind, spliced}
-use Rattle.laws.specs.Lists.{both}
-use Rattle.laws.specs.Words.{Stands, stands_behind}
-use Rattle.laws.specs.Fits.{record_fits}
-use Rattle.laws.specs.Records.{Lawful, record_length, record_stands}
+use Rattle.laws.specs.Records.{run_length}
+use Rattle.laws.specs.Parts.{bytes_append}
 use Rattle.wire.specs.Overwrite.{overwrite, Wrote, wrote_next}
-use Rattle.records.specs.Runs.{run_cons, run_none, run_length}
 use Rattle.splice.specs.Parts.{Kind, part_before, part_reading, part_behind, bytes_long}
 use Rattle.splice.specs.declared.Part.TheVariants.{Before, Reading, Behind}
-use Rattle.put_records.specs.Runs.{bytes_append}
 
 -- ---- lengths
 
@@ -72,17 +67,3 @@ module _ {A : Type 0} (c : Codec A) (l : Located A) (w : MergeWindow) (old readi
       let w2 = wrote_next w1 m placed g f (omega arith) in
       let w3 = wrote_next w2 n behind i (omega (arith, f, h, length-append before placed)) fits in
       rw spliced_bytes w3.is
-
--- ---- records that were written, read again
-
-module _ {A : Type 0} (c : Codec A) (lawful : Lawful c) (t : List ℕ) where
-  -- how many are asked for is known, so what follows may be anything
-  pub records_stand : (xs : List A) → all (record_fits c) xs ≡ true → (p : ℕ) (rest : List ℕ) → Stands t p (records_bytes c xs ++ rest) → records_at c t p (length xs) ≡ xs
-  unfolding records_bytes flatten
-  records_stand [] ok p rest h = run_none c t p
-  records_stand (x ∷ xs) ok p rest h =
-      let f = both (record_fits c x) (all (record_fits c) xs) ok in
-      let tail = records_bytes c xs ++ rest in
-      let here : Stands t p (record_bytes c x ++ tail) = h ∙ append_assoc (record_bytes c x) (records_bytes c xs) rest in
-      let more = records_stand xs f.1 (p + record_size c) rest (stands_behind t p (record_size c) (record_bytes c x) tail (record_length c lawful x f.0) here) in
-      run_cons c t (length xs) p (p + record_size c) refl ∙ ap₂ (λ (y : A) (ys : List A). y ∷ ys) (record_stands c lawful t x f.0 p tail here) more

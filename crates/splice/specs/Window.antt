@@ -1,8 +1,8 @@
--- The window of a merge as the model has it, and where an offset of each text stands in a part.
+-- The window of a merge as the model has it, and where what lies in each text stands in a part.
 use Rattle.std.specs.Prelude.{ℕ, ◌+◌, ◌%◌, pos}
-use Rattle.model.specs.Offset.{shift_clamp}
+use Rattle.model.specs.Offset.{Span, shifted}
 use Rattle.model.specs.Merge.{MergeWindow, moved_offset}
-use Rattle.span.specs.Values.{span_of, value_of}
+use Rattle.span.specs.Values.{span_of, normalized_span_of}
 use Rattle.splice.specs.declared.Window.{Window}
 use Rattle.splice.specs.declared.Part.{Part}
 use Rattle.splice.specs.declared.Part.TheVariants.{Before, Reading, Behind}
@@ -10,15 +10,15 @@ use Rattle.splice.specs.declared.Part.TheVariants.{Before, Reading, Behind}
 abbrev pub window_value : Window → MergeWindow
 window_value w = record {
   source = span_of w.source;
-  normalized = span_of w.normalized;
-  source_delta = value_of w.source_delta;
-  normalized_delta = value_of w.normalized_delta;
+  normalized = normalized_span_of w.normalized;
+  source_delta = w.source_delta;
+  normalized_delta = w.normalized_delta;
 }
 
-unfoldable pub source_in : MergeWindow → Part → ℕ → ℕ
-source_in w Before v = v
-source_in w Reading v = shift_clamp v (pos w.source.start)
-source_in w Behind v = shift_clamp v w.source_delta
+unfoldable pub span_in : MergeWindow → Part → Span → Span
+span_in w Before s = s
+span_in w Reading s = shifted s (pos w.source.start)
+span_in w Behind s = shifted s w.source_delta
 
 -- as a word: by its rest where a sum passes 2 to the 32
 unfoldable pub normalized_in : MergeWindow → Part → ℕ → ℕ

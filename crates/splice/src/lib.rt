@@ -3,33 +3,29 @@
 // where their offsets stand there; crate splice_lists writes pairs, containers and diagnostics, crate splice_nodes the nodes.
 #![tactic(auto)]
 
-ghost use Rattle.std.specs.Prelude.{◌≡◌, ℕ, ◌+◌, ◌%◌, ◌≤◌, length};
+ghost use Rattle.std.specs.Prelude.{◌≡◌, ℕ, ◌+◌, ◌≤◌, length};
 ghost use Rattle.model.specs.Tape.{Codec, record_at, records_at, record_bytes, records_bytes};
 ghost use Rattle.model.specs.Merge.{Located, kept_before, kept_behind, moved_offset};
 ghost use Rattle.wire.specs.Overwrite.{overwrite};
-ghost use Rattle.span.specs.Values.{value_of, span_of};
-ghost use Rattle.splice.specs.Parts.{Kind, span_in, is_in, as_in, part_of};
+ghost use Rattle.splice.specs.Parts.{Kind, is_in, as_in, part_of};
 ghost use Rattle.splice.specs.Window.{window_value};
-ghost use Rattle.splice.specs.Counted.{row_in};
-ghost use Rattle.splice.specs.Kinds.{Extends};
-ghost use Rattle.splice.specs.declared.Extent.{Extent};
 
 mod section;
 
 pub use section::Section;
-use span::{Amount, Span};
+use span::{NormalizedOffset, NormalizedSpan, Span};
 
 // The region in both texts, and how far what lies behind it moves in each: `MergeWindow`.
 #[derive(Clone, Copy)]
 pub struct Window {
     pub source: Span,
-    pub normalized: Span,
-    pub source_delta: Amount,
-    pub normalized_delta: Amount,
+    pub normalized: NormalizedSpan,
+    pub source_delta: i64,
+    pub normalized_delta: i64,
 }
 
 // The parts of a merged list: the old one up to the region, the reading's, the old rest. Window and part stay two parameters: a merge has
-// one window, and the part is another at each call. Three functions match on a part, for three answers: a test, and an offset of each text.
+// one window, and the part is another at each call. Four functions match on a part: a test and a move in each text.
 #[derive(Clone, Copy)]
 pub enum Part {
     Before,
@@ -37,79 +33,65 @@ pub enum Part {
     Behind,
 }
 
-// ---- records of any kind
-
-// Whether what lies from `start` to `stop` is in a part, the region lying from `from` to `to`.
-#[tactic(auto, unfolding(crate::specs::Parts::span_in))]
-fn span_in(part: Part, start: usize, stop: usize, from: usize, to: usize) -> bool
-    ensures { result ≡ span_in part start stop from to }
-{
-    match part {
-        Part::Before => stop <= from,
-        Part::Reading => true,
-        Part::Behind => to <= start,
-    }
-}
-
-// Where the words of a kind of record stand that say from where to where it goes, and how far behind the second it ends.
-#[derive(Clone, Copy)]
-pub struct Extent {
-    pub first: usize,
-    pub last: usize,
-    pub past: u32,
-}
-
-// Whether the record at a place is in a part, the region lying there.
-fn row_in(tape: &[u8], at: usize, extent: Extent, region: Span, part: Part) -> bool
-    requires { (at + extent.first + 4 ≤ length tape.now) × (at + extent.last + 4 ≤ length tape.now) }
-    ensures { result ≡ row_in tape.now extent.first extent.last extent.past region.start region.end part at }
-{
-    let start = wire::u32_at(tape, at + extent.first) as usize;
-    let stop = wire::u32_at(tape, at + extent.last) as usize + extent.past as usize;
-    span_in(
-        part,
-        start,
-        stop,
-        region.start as usize,
-        region.end as usize,
-    )
-}
-
-// ---- where offsets stand
-
 // `shift_u32`, and 0 where it has no answer.
-fn moved_offset(o: u32, by: Amount) -> u32
-    ensures { result ≡ moved_offset o (value_of by) }
+fn moved_offset(o: u32, by: i64) -> u32
+    ensures { result ≡ moved_offset o by }
 {
-    span::shift_by(o, by).unwrap_or(0)
+    span::shift_u32(o, by).unwrap_or(0)
 }
 
 impl Window {
-    ghost use Rattle.std.specs.Prelude.{◌≡◌};
-    ghost use Rattle.splice.specs.Window.{window_value, source_in, normalized_in};
+    ghost use Rattle.std.specs.Prelude.{◌≡◌, ◌+◌};
+    ghost use Rattle.span.specs.Values.{span_of};
+    ghost use Rattle.splice.specs.Parts.{lies_in};
+    ghost use Rattle.splice.specs.Window.{window_value, span_in, normalized_in};
 
-    // Where an offset in the source text stands in a part.
-    #[tactic(auto, unfolding(crate::specs::Window::source_in))]
-    pub fn source_in(self, v: u32, part: Part) -> u32
-        ensures { result ≡ source_in (window_value self) part v }
+    // Whether a span of the source text is in a part.
+    #[tactic(auto, using(span::specs::Order::le_is), unfolding(crate::specs::Parts::lies_in))]
+    pub fn has_span(self, s: Span, part: Part) -> bool
+        ensures { result ≡ lies_in part s.start.0 s.end.0 self.source.start.0 self.source.end.0 }
     {
         match part {
-            Part::Before => v,
-            Part::Reading => span::shift_clamp(v, Amount::Forward(self.source.start as u64)),
-            Part::Behind => span::shift_clamp(v, self.source_delta),
+            Part::Before => s.end <= self.source.start,
+            Part::Reading => true,
+            Part::Behind => self.source.end <= s.start,
         }
     }
 
-    // Where an offset in the normalized text stands in a part.
-    #[tactic(auto, unfolding(crate::specs::Window::normalized_in))]
-    pub fn normalized_in(self, v: u32, part: Part) -> u32
-        ensures { result ≡ normalized_in (window_value self) part v }
+    // Whether what lies from one mark of the normalized text to another, the second within, is in a part.
+    #[tactic(auto, using(span::specs::Order::le_is, span::specs::Order::lt_is), unfolding(crate::specs::Parts::lies_in))]
+    pub fn has_marks(self, marks: NormalizedSpan, part: Part) -> bool
+        ensures { result ≡ lies_in part marks.start.0 (marks.end.0 + 1) self.normalized.start.0 self.normalized.end.0 }
     {
         match part {
-            Part::Before => v,
+            Part::Before => marks.end < self.normalized.start,
+            Part::Reading => true,
+            Part::Behind => self.normalized.end <= marks.start,
+        }
+    }
+
+    // Where a span of the source text stands in a part.
+    #[tactic(auto, unfolding(crate::specs::Window::span_in))]
+    pub fn span_in(self, s: Span, part: Part) -> Span
+        ensures { span_of result ≡ span_in (window_value self) part (span_of s) }
+    {
+        match part {
+            Part::Before => s,
+            Part::Reading => s.shifted(i64::from(self.source.start.0)),
+            Part::Behind => s.shifted(self.source_delta),
+        }
+    }
+
+    // Where an offset of the normalized text stands in a part.
+    #[tactic(auto, unfolding(crate::specs::Window::normalized_in))]
+    pub fn normalized_in(self, o: NormalizedOffset, part: Part) -> NormalizedOffset
+        ensures { result.0 ≡ normalized_in (window_value self) part o.0 }
+    {
+        match part {
+            Part::Before => o,
             // A sum's low 32 bits where it passes a word: a record's bytes hold no more of it.
-            Part::Reading => v.wrapping_add(self.normalized.start),
-            Part::Behind => moved_offset(v, self.normalized_delta),
+            Part::Reading => NormalizedOffset(o.0.wrapping_add(self.normalized.start.0)),
+            Part::Behind => NormalizedOffset(moved_offset(o.0, self.normalized_delta)),
         }
     }
 }
@@ -123,19 +105,16 @@ pub trait Spliced {
 
     ghost SIZE: { ℕ };
 
-    const EXTENT: Extent;
-
-    ghost EXTENT: { Extent };
-
     ghost Value: { Type 0 };
 
     ghost codec: { Codec Value };
 
     ghost located: { Located Value };
 
-    // The region in the text that the kind's offsets are of.
-    fn region(w: Window) -> Span
-        ensures { span_of result ≡ located.window (window_value w) };
+    // Whether the record at a place is in a part: where it lies in its own text is held against the region there.
+    fn is_in(tape: &[u8], at: usize, w: Window, part: Part) -> bool
+        requires { at + SIZE ≤ length tape.now }
+        ensures { result ≡ is_in located (window_value w) part (record_at codec tape.now at) };
 
     // The record at a place, written as it stands in a part.
     fn put(tape: &[u8], at: usize, w: Window, part: Part, out: &mut [u8], to: usize)
@@ -143,14 +122,4 @@ pub trait Spliced {
         ensures { out.new ≡ overwrite out.old to (record_bytes codec (as_in located (window_value w) part (record_at codec tape.now at))) };
 
     ghost kind: { Kind codec located SIZE };
-
-    ghost extends: { Extends codec located SIZE EXTENT };
-}
-
-// Whether the record at a place is in a part.
-pub fn is_in<K: Spliced>(tape: &[u8], at: usize, w: Window, part: Part) -> bool
-    requires { at + K.SIZE ≤ length tape.now }
-    ensures { result ≡ is_in K.located (window_value w) part (record_at K.codec tape.now at) }
-{
-    row_in(tape, at, K::EXTENT, K::region(w), part)
 }

@@ -3,7 +3,7 @@
 
 ghost use Rattle.std.specs.Prelude.{◌+◌, ◌*◌, ◌≤◌, length};
 
-use crate::{Part, Spliced, Window, is_in};
+use crate::{Part, Spliced, Window};
 use places::Run;
 use std::marker::PhantomData;
 
@@ -43,7 +43,7 @@ impl<'a, K: Spliced> Section<'a, K> {
             .filter(
                 |i|
                     requires { self.now.run.at + K.SIZE * i.now + K.SIZE ≤ length self.now.tape.now }
-                { is_in::<K>(self.tape, self.run.at + K::SIZE * *i, w, part) },
+                { K::is_in(self.tape, self.run.at + K::SIZE * *i, w, part) },
             )
             .count()
     }
@@ -70,7 +70,7 @@ impl<'a, K: Spliced> Section<'a, K> {
         let mut next = to;
         for i in 0..self.run.count {
             let place = self.run.at + K::SIZE * i;
-            if is_in::<K>(self.tape, place, w, part) {
+            if K::is_in(self.tape, place, w, part) {
                 K::put(self.tape, place, w, part, out, next);
                 next += K::SIZE;
             }

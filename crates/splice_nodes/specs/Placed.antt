@@ -7,7 +7,7 @@ use Rattle.model.specs.Tape.{Operand, Operand.byte, Operand.word, operand_size, 
 use Rattle.model.specs.Merge.{MergeWindow, Located}
 use Rattle.wire.specs.Overwrite.{overwrite, get_d_behind}
 use Rattle.wire.specs.Words.{word_at_behind}
-use Rattle.splice.specs.Parts.{Kind, PutUpTo, is_in, as_in, part_of, span_in, part_reading, item_put, put_first, put_last, put_more}
+use Rattle.splice.specs.Parts.{Kind, PutUpTo, is_in, as_in, part_of, lies_in, part_reading, item_put, put_first, put_last, put_more}
 use Rattle.splice.specs.Counted.{reading_room}
 use Rattle.splice.specs.declared.Part.TheVariants.{Reading}
 
@@ -26,7 +26,7 @@ module _ (d : List ℕ) (at : ℕ) (bs : List ℕ) (fits : at + length bs ≤ le
   record_behind c = ap c.decode (operands_behind c.operands 1)
 
 in_reading : {A : Type 0} (l : Located A) (w : MergeWindow) (x : A) → is_in l w Reading x ≡ true
-unfolding is_in span_in
+unfolding is_in lies_in
 in_reading l w x = refl
 
 module _ {A : Type 0} {c : Codec A} {l : Located A} {z : ℕ} (k : Kind c l z) (w : MergeWindow) (d : List ℕ) (at : ℕ) where

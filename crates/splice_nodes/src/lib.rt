@@ -9,17 +9,18 @@ ghost use Rattle.model.specs.Merge.{node_located};
 ghost use Rattle.wire.specs.Overwrite.{overwrite};
 ghost use Rattle.records.specs.Values.{source_node_of};
 ghost use Rattle.splice.specs.Window.{window_value};
-ghost use Rattle.splice.specs.Kinds.{node_kind, node_extends};
+ghost use Rattle.splice.specs.Kinds.{node_kind};
 ghost use Rattle.splice.specs.Parts.{as_in};
 ghost use Rattle.splice.specs.declared.Part.TheVariants.{Reading};
+
+use numbers::NODE_SIZE;
 
 fn node_as_in(n: records::SourceNode, w: splice::Window, part: splice::Part) -> records::SourceNode
     ensures { record_bytes node_codec (source_node_of result) ≡ record_bytes node_codec (as_in node_located (window_value w) part (source_node_of n)) }
 {
     records::SourceNode {
-        start: w.source_in(n.start, part),
-        end: w.source_in(n.end, part),
-        offset: w.normalized_in(n.offset, part),
+        source_span: w.span_in(n.source_span, part),
+        normalized_offset: w.normalized_in(n.normalized_offset, part),
         ..n
     }
 }
@@ -27,7 +28,7 @@ fn node_as_in(n: records::SourceNode, w: splice::Window, part: splice::Part) -> 
 pub struct Nodes;
 
 impl splice::Spliced for Nodes {
-    const SIZE: usize = 49;
+    const SIZE: usize = NODE_SIZE;
 
     ghost SIZE = { 49 };
 
@@ -37,17 +38,13 @@ impl splice::Spliced for Nodes {
 
     ghost located = { node_located };
 
-    const EXTENT: splice::Extent = splice::Extent {
-        first: 3,
-        last: 7,
-        past: 0,
-    };
-
-    ghost EXTENT = { record { first = 3; last = 7; past = 0 } };
-
-    #[tactic(auto, unfolding(model::specs::Merge::node_located))]
-    fn region(w: splice::Window) -> span::Span {
-        w.source
+    #[tactic(auto, unfolding(model::specs::Merge::node_located, splice::specs::Parts::is_in))]
+    fn is_in(tape: &[u8], at: usize, w: splice::Window, part: splice::Part) -> bool {
+        let span = span::Span {
+            start: records::node_start(tape, at),
+            end: records::node_end(tape, at),
+        };
+        w.has_span(span, part)
     }
 
     fn put(
@@ -62,8 +59,6 @@ impl splice::Spliced for Nodes {
     }
 
     ghost kind = { node_kind };
-
-    ghost extends = { node_extends };
 }
 
 // A node of the reading, moved where it stands.
@@ -81,6 +76,6 @@ pub fn place_nodes(out: &mut [u8], at: usize, count: usize, w: splice::Window)
     ensures { out.new ≡ overwrite out.old at (records_bytes node_codec (map (node_located.placed (window_value w)) (records_at node_codec out.old at count))) }
 {
     for i in 0..count {
-        place_node(out, at + 49 * i, w);
+        place_node(out, at + NODE_SIZE * i, w);
     }
 }

@@ -6,14 +6,15 @@ use Rattle.model.specs.Bytes.{word_at}
 use Rattle.model.specs.Types.{LexOutput}
 use Rattle.model.specs.Store.{string_counts, content_counts, segment_counts}
 use Rattle.model.specs.Tape.{LayerPlaces, places, string_lengths, layers_at, bytes_needed, book_at, node_codec, pair_codec, container_codec, diagnostic_codec}
+use Rattle.laws.specs.Records.{run_length}
 use Rattle.places.specs.declared.Places.{Places}
 use Rattle.places.specs.Found.{found}
 use Rattle.places.specs.Again.{Frame}
-use Rattle.store.specs.Standing.{length_records, string_counts_lem, content_counts_lem, segment_counts_lem}
+use Rattle.store.specs.Standing.{string_counts_lem, content_counts_lem, segment_counts_lem}
 
 pub record BookLengths (b : LexOutput) (p : Places) : Type 0 where
-  pub text : length b.sanitized ≡ p.text
-  pub normalized : length b.normalized ≡ p.normalized
+  pub text : length b.sanitized ≡ p.text.0
+  pub normalized : length b.normalized ≡ p.normalized.0
   pub layers : length b.layers ≡ p.layers
   pub strings : sum (string_counts b.layers) ≡ p.strings
   pub contents : sum (content_counts b.layers) ≡ p.contents
@@ -41,8 +42,8 @@ book_lengths t d p f e =
       strings = ap sum (string_counts_lem t q.layers rest);
       contents = ap sum (content_counts_lem t q.layers rest);
       segments = ap sum (segment_counts_lem t q.layers rest);
-      nodes = length_records node_codec t q.nodes_at q.node_count;
-      pairs = length_records pair_codec t q.pairs_at q.pair_count;
-      containers = length_records container_codec t q.containers_at q.container_count;
-      diagnostics = length_records diagnostic_codec t q.diagnostics_at q.diagnostic_count;
+      nodes = run_length node_codec t q.nodes_at q.node_count;
+      pairs = run_length pair_codec t q.pairs_at q.pair_count;
+      containers = run_length container_codec t q.containers_at q.container_count;
+      diagnostics = run_length diagnostic_codec t q.diagnostics_at q.diagnostic_count;
     })

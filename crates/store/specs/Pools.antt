@@ -10,8 +10,9 @@ use borrow.Author.Tests.{le-leb, lt-leb, leb-true, leb-false, ltb-true, ltb-fals
 use Rattle.model.specs.Lists.{sum, any, tabulate}
 use Rattle.model.specs.Bytes.{zeros}
 use Rattle.model.specs.Store.{layer_starts, in_one_layer, range_ok, id_ok}
+use Rattle.facts.specs.Truth.{by_bool}
 use Rattle.wire.specs.Overwrite.{padded}
-use Rattle.wire.specs.Loops.{any_up_to, any_tabulate, by_bool}
+use Rattle.wire.specs.Loops.{any_up_to, any_tabulate}
 
 -- ---- what the code computes
 

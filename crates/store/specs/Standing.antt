@@ -17,13 +17,16 @@ use Rattle.model.specs.Types.{Content, Segment}
 use Rattle.model.specs.Store.{store_of, string_counts, content_counts, segment_counts, in_one_layer, range_ok, id_ok, resolve_content_range, resolve_seg_range}
 use Rattle.model.specs.Tape.{Codec, record_size, record_at, records_at, string_codec, content_codec, segment_codec}
 use Rattle.model.specs.Tape.{LayerPlaces, layer_places, layers_from, places, string_lengths, pieces, layer_at, layers_at}
-use Rattle.laws.specs.Lists.{both, either}
-use Rattle.laws.specs.Records.{tabulate_same}
+use Rattle.facts.specs.Truth.{both, either}
+use Rattle.facts.specs.Lists.{tabulate_same}
+use Rattle.laws.specs.Records.{run_length}
 use Rattle.laws.specs.RoundTrip.{layer_end}
 use Rattle.places.specs.Found.{strings_in, contents_in, segments_in}
 use Rattle.places.specs.Again.{layers_cons, length_counts, nodes_place}
+use Rattle.places.specs.Walked.{nth_runs, RunsFit, runs_fit}
+use Rattle.places.specs.declared.LayerRuns.{LayerRuns}
 use Rattle.store.specs.Pools.{Pool, Held, start_or, range_in, layer_of, before, before_next, before_most, pool_start_or, pool_id, pool_range, pool_held, held_one}
-use Rattle.store.specs.Stored.{store_at}
+use Rattle.store.specs.Stored.{store_at, stored_layers, OfTape}
 use Rattle.store.specs.declared.Store.{Store}
 
 -- ---- places
@@ -48,6 +51,22 @@ content_place st i = let k = layer_of st.contents st.layers i in 10 + k + 5 * st
 unfoldable pub segment_place : Store → ℕ → ℕ
 segment_place st i = let k = layer_of st.segments st.layers i in 10 + k + 5 * string_start st (k + 1) + 10 * content_start st (k + 1) + 37 * i
 
+-- the records of layer k
+unfoldable pub runs_by : Store → ℕ → LayerRuns
+runs_by st k =
+    let a = string_start st k in
+    let b = content_start st k in
+    let g = segment_start st k in
+    let strings = string_start st (k + 1) in
+    let contents = content_start st (k + 1) in
+    let segments = segment_start st (k + 1) in
+    record {
+      strings = record { at = 10 + k + 5 * a + 10 * b + 37 * g; count = strings - a };
+      contents = record { at = 10 + k + 5 * strings + 10 * b + 37 * g; count = contents - b };
+      segments = record { at = 10 + k + 5 * strings + 10 * contents + 37 * g; count = segments - g };
+      end = 10 + k + 5 * strings + 10 * contents + 37 * segments;
+    }
+
 -- ---- the pools of a store that was filled
 
 module _ (t : List ℕ) (st : Store) (e : st ≡ store_at t) where
@@ -70,33 +89,25 @@ unfolding pieces
 length_pieces [] b = refl
 length_pieces (n ∷ ns) b = ap suc (length_pieces ns (drop n b))
 
-length_tabulate : {A : Type 0} (n : ℕ) (f : ℕ → A) → length (tabulate n f) ≡ n
-length_tabulate zero f = refl
-length_tabulate (suc n) f = ap suc (length_tabulate n (λ (i : ℕ). f (suc i)))
-
-pub length_records : {A : Type 0} (c : Codec A) (t : List ℕ) (p n : ℕ) → length (records_at c t p n) ≡ n
-unfolding records_at
-length_records c t p n = length_tabulate n (λ i. record_at c t (p + record_size c * i))
-
 pub string_counts_lem : (t : List ℕ) (ls : List LayerPlaces) (b : List ℕ) → string_counts (layers_at t ls b) ≡ strings_in ls
 unfolding string_counts layers_at layer_at string_lengths
 string_counts_lem t [] b = refl
 string_counts_lem t (l ∷ ls) b =
     ap₂ (λ (x : ℕ) (xs : List ℕ). x ∷ xs)
-    (length_pieces (records_at string_codec t l.strings_at l.string_count) b ∙ length_records string_codec t l.strings_at l.string_count)
+    (length_pieces (records_at string_codec t l.strings_at l.string_count) b ∙ run_length string_codec t l.strings_at l.string_count)
     (string_counts_lem t ls (drop (sum (string_lengths t l)) b))
 
 pub content_counts_lem : (t : List ℕ) (ls : List LayerPlaces) (b : List ℕ) → content_counts (layers_at t ls b) ≡ contents_in ls
 unfolding content_counts layers_at layer_at
 content_counts_lem t [] b = refl
 content_counts_lem t (l ∷ ls) b =
-    ap₂ (λ (x : ℕ) (xs : List ℕ). x ∷ xs) (length_records content_codec t l.contents_at l.content_count) (content_counts_lem t ls (drop (sum (string_lengths t l)) b))
+    ap₂ (λ (x : ℕ) (xs : List ℕ). x ∷ xs) (run_length content_codec t l.contents_at l.content_count) (content_counts_lem t ls (drop (sum (string_lengths t l)) b))
 
 pub segment_counts_lem : (t : List ℕ) (ls : List LayerPlaces) (b : List ℕ) → segment_counts (layers_at t ls b) ≡ segments_in ls
 unfolding segment_counts layers_at layer_at
 segment_counts_lem t [] b = refl
 segment_counts_lem t (l ∷ ls) b =
-    ap₂ (λ (x : ℕ) (xs : List ℕ). x ∷ xs) (length_records segment_codec t l.segments_at l.segment_count) (segment_counts_lem t ls (drop (sum (string_lengths t l)) b))
+    ap₂ (λ (x : ℕ) (xs : List ℕ). x ∷ xs) (run_length segment_codec t l.segments_at l.segment_count) (segment_counts_lem t ls (drop (sum (string_lengths t l)) b))
 
 -- ---- ids and ranges, as number 4 asks
 
@@ -145,11 +156,13 @@ record RunsAt (ls : List LayerPlaces) (k : ℕ) (l : LayerPlaces) : Type 0 where
   strings : l.strings_at ≡ 10 + k + 5 * before (strings_in ls) k + 10 * before (contents_in ls) k + 37 * before (segments_in ls) k
   contents : l.contents_at ≡ 10 + k + 5 * before (strings_in ls) (suc k) + 10 * before (contents_in ls) k + 37 * before (segments_in ls) k
   segments : l.segments_at ≡ 10 + k + 5 * before (strings_in ls) (suc k) + 10 * before (contents_in ls) (suc k) + 37 * before (segments_in ls) k
+  end : l.end_at ≡ 10 + k + 5 * before (strings_in ls) (suc k) + 10 * before (contents_in ls) (suc k) + 37 * before (segments_in ls) (suc k)
 
 runs_of : (t : List ℕ) (p : ℕ) → ((layer_places t p).strings_at ≡ p + 1) × ((layer_places t p).contents_at ≡ p + 1 + 5 * (layer_places t p).string_count)
     × ((layer_places t p).segments_at ≡ p + 1 + 5 * (layer_places t p).string_count + 10 * (layer_places t p).content_count)
-unfolding layer_places string_codec content_codec
-runs_of t p = (refl, refl, refl)
+    × ((layer_places t p).end_at ≡ p + 1 + 5 * (layer_places t p).string_count + 10 * (layer_places t p).content_count + 37 * (layer_places t p).segment_count)
+unfolding layer_places string_codec content_codec segment_codec
+runs_of t p = (refl, refl, refl, refl)
 
 runs_at : (t : List ℕ) (k : ℕ) → k < length (places t).layers → RunsAt (places t).layers k (layer (places t).layers k)
 unfolding places
@@ -160,13 +173,59 @@ runs_at t k h =
     let r = runs_of t p in
     let s : get_or (strings_in ls) k 0 ≡ (layer_places t p).string_count = count_in (λ (l : LayerPlaces). l.string_count) ls k h ∙ ap (λ (l : LayerPlaces). l.string_count) e in
     let c : get_or (contents_in ls) k 0 ≡ (layer_places t p).content_count = count_in (λ (l : LayerPlaces). l.content_count) ls k h ∙ ap (λ (l : LayerPlaces). l.content_count) e in
+    let g : get_or (segments_in ls) k 0 ≡ (layer_places t p).segment_count = count_in (λ (l : LayerPlaces). l.segment_count) ls k h ∙ ap (λ (l : LayerPlaces). l.segment_count) e in
     let a = before_next (strings_in ls) k in
     let b = before_next (contents_in ls) k in
+    let d = before_next (segments_in ls) k in
     rw e (record {
       strings = omega (arith, r.0);
       contents = omega (arith, r.1, s, a);
       segments = omega (arith, r.2, s, c, a, b);
+      end = omega (arith, r.3, s, c, g, a, b, d);
     })
+
+-- the starts of a tape's own store find the records of each layer
+pub runs_by_lem : (t : List ℕ) (st : Store) → st ≡ store_at t → (k : ℕ) → k < length (places t).layers → runs_by st k ≡ nth_runs t k
+unfolding runs_by nth_runs
+runs_by_lem t st e k h =
+    let ls = (places t).layers in
+    let l = layer ls k in
+    let r = runs_at t k h in
+    let sc = count_in (λ (l : LayerPlaces). l.string_count) ls k h in
+    let cc = count_in (λ (l : LayerPlaces). l.content_count) ls k h in
+    let gc = count_in (λ (l : LayerPlaces). l.segment_count) ls k h in
+    let sn = before_next (strings_in ls) k in
+    let cn = before_next (contents_in ls) k in
+    let gn = before_next (segments_in ls) k in
+    let s : string_start st k ≡ before (strings_in ls) k = pool_start_or (string_pool t st e) k in
+    let c : content_start st k ≡ before (contents_in ls) k = pool_start_or (content_pool t st e) k in
+    let g : segment_start st k ≡ before (segments_in ls) k = pool_start_or (segment_pool t st e) k in
+    let sm : string_start st (k + 1) ≡ before (strings_in ls) (suc k) = pool_start_or (string_pool t st e) (k + 1) ∙ ap (before (strings_in ls)) (add-one k) in
+    let cm : content_start st (k + 1) ≡ before (contents_in ls) (suc k) = pool_start_or (content_pool t st e) (k + 1) ∙ ap (before (contents_in ls)) (add-one k) in
+    let gm : segment_start st (k + 1) ≡ before (segments_in ls) (suc k) = pool_start_or (segment_pool t st e) (k + 1) ∙ ap (before (segments_in ls)) (add-one k) in
+    let sa : 10 + k + 5 * string_start st k + 10 * content_start st k + 37 * segment_start st k ≡ l.strings_at = omega (arith, r.strings, s, c, g) in
+    let ca : 10 + k + 5 * string_start st (k + 1) + 10 * content_start st k + 37 * segment_start st k ≡ l.contents_at = omega (arith, r.contents, sm, c, g) in
+    let ga : 10 + k + 5 * string_start st (k + 1) + 10 * content_start st (k + 1) + 37 * segment_start st k ≡ l.segments_at = omega (arith, r.segments, sm, cm, g) in
+    let ea : 10 + k + 5 * string_start st (k + 1) + 10 * content_start st (k + 1) + 37 * segment_start st (k + 1) ≡ l.end_at = omega (arith, r.end, sm, cm, gm) in
+    let sd : string_start st (k + 1) - string_start st k ≡ l.string_count = omega (arith, s, sm, sn, sc) in
+    let cd : content_start st (k + 1) - content_start st k ≡ l.content_count = omega (arith, c, cm, cn, cc) in
+    let gd : segment_start st (k + 1) - segment_start st k ≡ l.segment_count = omega (arith, g, gm, gn, gc) in
+    λ i. record {
+      strings = record { at = sa i; count = sd i };
+      contents = record { at = ca i; count = cd i };
+      segments = record { at = ga i; count = gd i };
+      end = ea i;
+    }
+
+module _ {t : List ℕ} {st : Store} (f : OfTape t st) {k : ℕ} (h : k < st.layers) where
+  pub in_tape : k < length (places t).layers
+  in_tape = let n = stored_layers t f.stored in omega (arith, n, h)
+
+  pub runs_there : {l : LayerRuns} → l ≡ runs_by st k → l ≡ nth_runs t k
+  runs_there e = e ∙ runs_by_lem t st f.stored k in_tape
+
+  pub runs_inside : {l : LayerRuns} → l ≡ runs_by st k → RunsFit t l
+  runs_inside e = runs_fit f.inside in_tape (runs_there e)
 
 -- ---- a run inside one layer, out of the whole pool
 
@@ -181,11 +240,11 @@ part_tabulate n zero zero f h = refl
 part_tabulate zero zero (suc len) f h = absurd (omega arith)
 part_tabulate (suc n) zero (suc len) f h =
     ap₂ (λ x xs. x ∷ xs) (ap f (sym (zero-add 0)))
-    (part_tabulate n zero len (λ (i : ℕ). f (suc i)) (omega arith) ∙ tabulate_same len (λ (i : ℕ). f (suc (0 + i))) (λ (i : ℕ). f (0 + suc i)) (λ i. ap f (let e : suc (0 + i) ≡ 0 + suc i = omega arith in e)))
+    (part_tabulate n zero len (λ (i : ℕ). f (suc i)) (omega arith) ∙ tabulate_same len (λ (i : ℕ). f (suc (0 + i))) (λ (i : ℕ). f (0 + suc i)) (λ i h. ap f (let e : suc (0 + i) ≡ 0 + suc i = omega arith in e)))
 part_tabulate zero (suc start) len f h = absurd (omega arith)
 part_tabulate (suc n) (suc start) len f h =
     part_tabulate n start len (λ (i : ℕ). f (suc i)) (omega arith)
-    ∙ tabulate_same len (λ (i : ℕ). f (suc (start + i))) (λ (i : ℕ). f (suc start + i)) (λ i. ap f (let e : suc (start + i) ≡ suc start + i = omega arith in e))
+    ∙ tabulate_same len (λ (i : ℕ). f (suc (start + i))) (λ (i : ℕ). f (suc start + i)) (λ i h. ap f (let e : suc (start + i) ≡ suc start + i = omega arith in e))
 
 module _ {A : Type 0} (c : Codec A) (t : List ℕ) where
   -- a part of a run of records is a run of records
@@ -194,7 +253,7 @@ module _ {A : Type 0} (c : Codec A) (t : List ℕ) where
   part_records p n start len h =
       part_tabulate n start len (λ (i : ℕ). record_at c t (p + record_size c * i)) h
       ∙ tabulate_same len (λ (i : ℕ). record_at c t (p + record_size c * (start + i))) (λ (i : ℕ). record_at c t (p + record_size c * start + record_size c * i))
-      (λ i. ap (record_at c t) (ap (λ (k : ℕ). p + k) (mul-add (record_size c) start i) ∙ sym (add_assoc p (record_size c * start) (record_size c * i))))
+      (λ i h. ap (record_at c t) (ap (λ (k : ℕ). p + k) (mul-add (record_size c) start i) ∙ sym (add_assoc p (record_size c * start) (record_size c * i))))
 
   module _ (at count : LayerPlaces → ℕ) where
     -- the pool of such runs, layer after layer
@@ -207,7 +266,7 @@ module _ {A : Type 0} (c : Codec A) (t : List ℕ) where
     pool_part [] k start len s = absurd (let h = s.inside in omega (arith, h))
     pool_part (l ∷ ls) zero start len s =
         let run = records_at c t (at l) (count l) in
-        let n = length_records c t (at l) (count l) in
+        let n = run_length c t (at l) (count l) in
         let h : start + len ≤ count l = omega (arith, s.high) in
         let m = length-drop start run in
         ap (take len) (drop-append-le start run (pool_of ls) (omega (arith, h, n)))
@@ -216,7 +275,7 @@ module _ {A : Type 0} (c : Codec A) (t : List ℕ) where
         ∙ ap (λ (x : ℕ). records_at c t (at l + record_size c * x) len) (let e : start ≡ start - 0 = omega arith in e)
     pool_part (l ∷ ls) (suc k) start len s =
         let run = records_at c t (at l) (count l) in
-        let n = length_records c t (at l) (count l) in
+        let n = run_length c t (at l) (count l) in
         let low : count l + before (map count ls) k ≤ start = s.low in
         let q : start ≡ length run + (start - count l) = omega (arith, n, low) in
         let inner : Spans (map count ls) (start - count l) len k = record {
@@ -393,7 +452,7 @@ unfolding all_lengths flatten string_lengths
 length_pools t [] = refl
 length_pools t (l ∷ ls) =
     length-append (records_at string_codec t l.strings_at l.string_count) (flatten (map (string_lengths t) ls))
-    ∙ ap₂ (λ (x y : ℕ). x + y) (length_records string_codec t l.strings_at l.string_count) (length_pools t ls)
+    ∙ ap₂ (λ (x y : ℕ). x + y) (run_length string_codec t l.strings_at l.string_count) (length_pools t ls)
 
 module _ (t : List ℕ) (st : Store) (e : st ≡ store_at t) where
   -- The record at `string_place` has the length of the string of that number.

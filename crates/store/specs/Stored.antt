@@ -165,6 +165,10 @@ filling_all {t} {i} {at} {strings} {contents} {segments} {totals} f {layers} fit
 
 -- ---- the store of a tape
 
+pub stored_layers : (t : List ℕ) {st : Store} → st ≡ store_at t → st.layers ≡ length (places t).layers
+unfolding store_at
+stored_layers t e = ap (λ (x : Store). x.layers) e
+
 -- and the tape's pools lie inside it
 pub record OfTape (t : List ℕ) (st : Store) : Type 0 where
   pub stored : st ≡ store_at t

@@ -4,10 +4,17 @@
 // contents before + 37 × segments before. specs/Pools.antt says what the tests mean, specs/Standing.antt what stands there.
 #![tactic(auto)]
 
+mod layers;
+
 ghost use Rattle.std.specs.Prelude.{◌≡◌, ◌+◌, ◌^◌, ◌≤◌, ◌<◌, ltb};
 ghost use Rattle.store.specs.Pools.{start_or, in_layer, in_one, range_in, layer_of};
 ghost use Rattle.store.specs.Stored.{StoreFits, add_runs, store_at};
-ghost use Rattle.store.specs.Standing.{string_start, content_start, segment_start, string_place, content_place, segment_place};
+ghost use Rattle.store.specs.Standing.{string_start, content_start, segment_start, string_place, content_place, segment_place, runs_by};
+
+pub use layers::Layers;
+use numbers::{CONTENT_SIZE, HEAD_SIZE, SEGMENT_SIZE, STRING_SIZE};
+use places::{LayerRuns, Run};
+use span::StrId;
 
 // How many strings, contents and segments all layers hold.
 #[derive(Clone, Copy)]
@@ -85,7 +92,7 @@ fn layer_of(starts: &[u32; 32], layers: usize, i: u32) -> usize
     0
 }
 
-fn with_layer(a: Totals, l: places::LayerRuns) -> Totals
+fn with_layer(a: Totals, l: LayerRuns) -> Totals
     requires { (a.strings + l.strings.count < 2 ^ 32) × (a.contents + l.contents.count < 2 ^ 32) × (a.segments + l.segments.count < 2 ^ 32) }
     ensures { result ≡ add_runs a l }
 {
@@ -109,7 +116,7 @@ pub fn store_of(tape: &[u8], layers: usize) -> Store
         contents: 0,
         segments: 0,
     };
-    let mut at = 9;
+    let mut at = HEAD_SIZE;
     for i in 0..layers {
         let l = places::next_layer(tape, at);
         strings[i] = totals.strings;
@@ -153,19 +160,48 @@ impl Store {
         start_or(&self.segments, self.layers, self.totals.segments, k)
     }
 
-    // The layer that holds string i.
-    pub fn string_layer(&self, i: u32) -> usize
-        requires { self.now.layers ≤ 32 }
-        ensures { result ≡ layer_of self.now.strings self.now.layers i }
+    // Section 4. Where the records of layer k stand: a layer that was counted once need not be counted again. That starts rise is not asked here.
+    #[tactic(auto, unfolding(crate::specs::Standing::runs_by))]
+    pub fn layer_runs(&self, k: usize) -> LayerRuns
+        requires { (self.now.layers ≤ 32) × (k < self.now.layers) }
+        ensures { result ≡ runs_by self.now k }
     {
-        layer_of(&self.strings, self.layers, i)
+        let a = self.string_start(k) as usize;
+        let b = self.content_start(k) as usize;
+        let g = self.segment_start(k) as usize;
+        let strings = self.string_start(k + 1) as usize;
+        let contents = self.content_start(k + 1) as usize;
+        let segments = self.segment_start(k + 1) as usize;
+        LayerRuns {
+            strings: Run {
+                at: 10 + k + STRING_SIZE * a + CONTENT_SIZE * b + SEGMENT_SIZE * g,
+                count: strings.saturating_sub(a),
+            },
+            contents: Run {
+                at: 10 + k + STRING_SIZE * strings + CONTENT_SIZE * b + SEGMENT_SIZE * g,
+                count: contents.saturating_sub(b),
+            },
+            segments: Run {
+                at: 10 + k + STRING_SIZE * strings + CONTENT_SIZE * contents + SEGMENT_SIZE * g,
+                count: segments.saturating_sub(g),
+            },
+            end: 10 + k + STRING_SIZE * strings + CONTENT_SIZE * contents + SEGMENT_SIZE * segments,
+        }
+    }
+
+    // The layer that holds string i.
+    pub fn string_layer(&self, i: StrId) -> usize
+        requires { self.now.layers ≤ 32 }
+        ensures { result ≡ layer_of self.now.strings self.now.layers i.0 }
+    {
+        layer_of(&self.strings, self.layers, i.0)
     }
 
     // Number 4. Is there a string of that id?
-    pub fn has_string(&self, id: u32) -> bool
-        ensures { result ≡ ltb id self.now.totals.strings }
+    pub fn has_string(&self, id: StrId) -> bool
+        ensures { result ≡ ltb id.0 self.now.totals.strings }
     {
-        id < self.totals.strings
+        id.0 < self.totals.strings
     }
 
     // Number 4. Is that a range of contents? For segments the same below: each hands one pool's fields to the function that they share.
@@ -199,14 +235,14 @@ impl Store {
     // Section 4. Where the string record of that number stands. For contents and segments by sums of their own: what stands before it in its layer
     // counts up to the layer's end, all else up to its start.
     #[tactic(auto, using(crate::specs::Pools::layer_few), unfolding(crate::specs::Standing::string_place))]
-    pub fn string_place(&self, i: u32) -> usize
+    pub fn string_place(&self, i: StrId) -> usize
         requires { self.now.layers ≤ 32 }
-        ensures { result ≡ string_place self.now i }
+        ensures { result ≡ string_place self.now i.0 }
     {
         let k = self.string_layer(i);
         let b = self.content_start(k) as usize;
         let g = self.segment_start(k) as usize;
-        10 + k + 5 * i as usize + 10 * b + 37 * g
+        10 + k + STRING_SIZE * i.0 as usize + CONTENT_SIZE * b + SEGMENT_SIZE * g
     }
 
     #[tactic(auto, using(crate::specs::Pools::layer_few), unfolding(crate::specs::Standing::content_place))]
@@ -217,7 +253,7 @@ impl Store {
         let k = layer_of(&self.contents, self.layers, i);
         let a = self.string_start(k + 1) as usize;
         let g = self.segment_start(k) as usize;
-        10 + k + 5 * a + 10 * i as usize + 37 * g
+        10 + k + STRING_SIZE * a + CONTENT_SIZE * i as usize + SEGMENT_SIZE * g
     }
 
     #[tactic(auto, using(crate::specs::Pools::layer_few), unfolding(crate::specs::Standing::segment_place))]
@@ -228,6 +264,6 @@ impl Store {
         let k = layer_of(&self.segments, self.layers, i);
         let a = self.string_start(k + 1) as usize;
         let b = self.content_start(k + 1) as usize;
-        10 + k + 5 * a + 10 * b + 37 * i as usize
+        10 + k + STRING_SIZE * a + CONTENT_SIZE * b + SEGMENT_SIZE * i as usize
     }
 }

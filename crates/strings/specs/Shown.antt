@@ -9,7 +9,7 @@ use Rattle.model.specs.Lists.{sum}
 use Rattle.model.specs.Bytes.{part}
 use Rattle.model.specs.Store.{resolve_str, string_span, shown_part}
 use Rattle.model.specs.Tape.{places}
-use Rattle.wire.specs.Loops.{by_bool}
+use Rattle.facts.specs.Truth.{by_bool}
 use Rattle.places.specs.Found.{strings_in}
 use Rattle.store.specs.declared.Store.{Store}
 use Rattle.store.specs.Pools.{before_mono, before_next, before_most, pool_start_or}

@@ -7,8 +7,8 @@ use Rattle.model.specs.Lists.{sum}
 use Rattle.model.specs.Bytes.{word_at}
 use Rattle.model.specs.Store.{NodeStore, store_of}
 use Rattle.model.specs.Tape.{LayerPlaces, record_at, records_at, operands_at, string_codec, places, string_lengths, layers_at, bytes_needed}
+use Rattle.facts.specs.Lists.{sum_append}
 use Rattle.laws.specs.RoundTrip.{string_bytes}
-use Rattle.wire.specs.Loops.{sum_append}
 use Rattle.places.specs.Runs.{capped}
 use Rattle.places.specs.Found.{strings_in}
 use Rattle.places.specs.Again.{Frame, length_counts}

@@ -8,6 +8,7 @@ ghost use Rattle.wire.specs.Overwrite.{overwrite};
 ghost use Rattle.strings.specs.Index.{index_in, Indexed};
 ghost use Rattle.strings.specs.Shown.{Resolvable, shown_in};
 
+use span::StrId;
 use store::Store;
 
 // `old` are the bytes of the strings of all layers but the last, `new` those of the last layer; `index` is what `index_strings` has left.
@@ -22,18 +23,18 @@ pub struct Strings<'a> {
 }
 
 impl<'a> Strings<'a> {
-    pub fn string_length(&self, id: u32) -> usize
-        requires { id < self.now.store.now.totals.strings }
-        ensures { result ≡ get_or (lengths_in self.now.tape.now) id 0 }
+    pub fn string_length(&self, id: StrId) -> usize
+        requires { id.0 < self.now.store.now.totals.strings }
+        ensures { result ≡ get_or (lengths_in self.now.tape.now) id.0 0 }
     {
         crate::string_length(self.tape, self.store, id)
     }
 
     // Section 3. `resolve_str`.
-    pub fn resolve_str(&self, id: u32) -> &'a [u8]
-        requires { id < self.now.store.now.totals.strings }
-        ensures shown { result.now ≡ shown_in self.now.tape.now self.now.store.now self.now.old.now self.now.new.now id }
-        ensures resolved { result.now ≡ resolve_str (store_in self.now.tape.now (self.now.old.now ++ self.now.new.now)) id }
+    pub fn resolve_str(&self, id: StrId) -> &'a [u8]
+        requires { id.0 < self.now.store.now.totals.strings }
+        ensures shown { result.now ≡ shown_in self.now.tape.now self.now.store.now self.now.old.now self.now.new.now id.0 }
+        ensures resolved { result.now ≡ resolve_str (store_in self.now.tape.now (self.now.old.now ++ self.now.new.now)) id.0 }
     {
         let olds = crate::old_strings(self.store);
         let room = self.old.len() + self.new.len();

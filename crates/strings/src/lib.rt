@@ -16,16 +16,17 @@ ghost use Rattle.strings.specs.PlainContent.{plain_of};
 ghost use Rattle.strings.specs.Shown.{old_strings, Lies, part_of};
 
 pub use lent::Strings;
+use span::StrId;
 use store::Store;
 
 // The word for a start that does not fit one: the index stands in lent words, of 32 bits each.
 const NOT_STORED: u32 = u32::MAX;
 
 // Section 4, command 3: how long a string is.
-pub fn string_length(tape: &[u8], st: &Store, id: u32) -> usize
+pub fn string_length(tape: &[u8], st: &Store, id: StrId) -> usize
     requires of_tape { OfTape tape.now st.now }
-    requires id_lt_strings { id < st.now.totals.strings }
-    ensures { result ≡ get_or (lengths_in tape.now) id 0 }
+    requires id_lt_strings { id.0 < st.now.totals.strings }
+    ensures { result ≡ get_or (lengths_in tape.now) id.0 0 }
 {
     let at = st.string_place(id);
     wire::u32_at(tape, at + 1) as usize
@@ -37,7 +38,7 @@ fn run_end(st: &Store, i: u32, to: u32) -> u32
     requires { st.now.layers ≤ 32 }
     ensures { result ≡ run_end st.now i to }
 {
-    to.min(st.string_start(st.string_layer(i) + 1))
+    to.min(st.string_start(st.string_layer(StrId(i)) + 1))
 }
 
 // The start of string `next`, from that of string i of the same layer. Tape, store and room are named one by one, here and below: those who ask where a
@@ -48,7 +49,7 @@ fn start_after(tape: &[u8], st: &Store, room: usize, i: u32, next: u32, start: u
     requires start_value { start ≡ start_in tape.now i }
     ensures { result ≡ start_in tape.now next }
 {
-    let at = st.string_place(i);
+    let at = st.string_place(StrId(i));
     start + places::strings_length(tape, at, (next - i) as usize, room)
 }
 
@@ -105,34 +106,38 @@ pub fn index_strings(tape: &[u8], st: &Store, room: usize, words: &mut [u32])
 }
 
 // Section 3. Where a string begins: from the last start that the index has at or before it.
-pub fn string_start(tape: &[u8], st: &Store, room: usize, words: &[u32], id: u32) -> usize
+pub fn string_start(tape: &[u8], st: &Store, room: usize, words: &[u32], id: StrId) -> usize
     requires readable { Readable tape.now st.now room }
     requires indexed { Indexed (lengths_in tape.now) words.now }
-    requires id_lt_strings { id < st.now.totals.strings }
-    ensures { result ≡ (string_span (lengths_in tape.now) id).start }
+    requires id_lt_strings { id.0 < st.now.totals.strings }
+    ensures { result ≡ (string_span (lengths_in tape.now) id.0).start }
 {
     let step = step_of(st.totals.strings, words.len());
-    let q = id as usize / step;
+    let q = id.0 as usize / step;
     if q == 0 {
-        return start_from(tape, st, room, 0, id, 0);
+        return start_from(tape, st, room, 0, id.0, 0);
     }
     let start = words[q - 1];
     if start == NOT_STORED {
-        return start_from(tape, st, room, 0, id, 0);
+        return start_from(tape, st, room, 0, id.0, 0);
     }
-    start_from(tape, st, room, (q * step) as u32, id, start as usize)
+    start_from(tape, st, room, (q * step) as u32, id.0, start as usize)
 }
 
 // By `if`, as the definition has it; `then_some` would say the same of the same two things.
 #[tactic(auto, unfolding(crate::specs::PlainContent::plain_of))]
-fn plain_of(c: records::Content) -> Option<u32>
+fn plain_of(c: records::Content) -> Option<StrId>
     ensures { result ≡ plain_of (content_of c ∷ []) }
 {
-    if c.is_plain() { Some(c.first) } else { None }
+    if c.is_plain() {
+        Some(StrId(c.first))
+    } else {
+        None
+    }
 }
 
 // Section 6. A range of exactly one Plain content gives its string, all others none.
-pub fn content_range_as_plain(tape: &[u8], st: &Store, start: u32, len: u32) -> Option<u32>
+pub fn content_range_as_plain(tape: &[u8], st: &Store, start: u32, len: u32) -> Option<StrId>
     requires of_tape { OfTape tape.now st.now }
     requires len_value { range_in st.now.contents st.now.layers st.now.totals.contents start len ≡ true }
     ensures { (b : List ℕ) → result ≡ plain_of (resolve_content_range (store_in tape.now b) start len) }
@@ -156,14 +161,14 @@ fn resolve<'a>(
     old: &'a [u8],
     new: &'a [u8],
     olds: u32,
-    id: u32,
+    id: StrId,
     start: usize,
     len: usize,
 ) -> &'a [u8]
-    requires { Lies old.now new.now olds id start len }
-    ensures { result.now ≡ part_of old.now new.now olds id start len }
+    requires { Lies old.now new.now olds id.0 start len }
+    ensures { result.now ≡ part_of old.now new.now olds id.0 start len }
 {
-    if id < olds {
+    if id.0 < olds {
         return &old[start..start + len];
     }
     let at = start - old.len();

@@ -1,9 +1,8 @@
 -- How many slots a table has, and when it doubles. Assumes nothing.
-use Rattle.std.specs.Prelude.{◌≡◌, refl, Bool, true, false, cond, not, ◌&&◌, List, [], ◌∷◌, ℕ, suc, ◌+◌, ◌-◌, ◌*◌, ◌<◌, ◌≤◌, eqb, leb, length}
-use Rattle.std.proofs.Common.{sym, ap, subst, arith, ne_eqb, leb-true, leb-false, lit≤}
-use Rattle.std.proofs.lemmas.Bool.{false≢true}
-use Rattle.model.specs.Lists.{is_empty}
+use Rattle.std.specs.Prelude.{◌≡◌, refl, Bool, true, false, cond, not, ◌&&◌, List, ℕ, ◌+◌, ◌-◌, ◌*◌, ◌<◌, ◌≤◌, eqb, leb, length}
+use Rattle.std.proofs.Common.{ap, subst, arith, ne_eqb, leb-true, leb-false, lit≤}
 use Rattle.model.specs.Limits.{load_factor_numerator, load_factor_denominator}
+use Rattle.facts.specs.Truth.{both}
 use Rattle.table.specs.Layout.{table_of, starts_of, strings_up_to, strings_of, Work}
 use Rattle.table.specs.Views.{table_length}
 use Rattle.table.specs.Wide.{starts_number}
@@ -75,22 +74,12 @@ strings_all work strs size count w =
     ap (λ (n : ℕ). strings_up_to n (starts_of count work) strs) q
 
 -- ---- tests on a table are tests on its length
-pub is_empty_lem : (t : List ℕ) → is_empty t ≡ eqb (length t) 0
-is_empty_lem [] = refl
-is_empty_lem (x ∷ xs) = sym (ne_eqb (suc (length xs)) 0 (λ e. omega (arith, e)))
-
-not_both : (b : Bool) → (true && b) ≡ false → b ≡ false
-not_both b e = e
-
-and_right : (a b : Bool) → (a && b) ≡ true → b ≡ true
-and_right true b e = e
-and_right false b e = absurd (false≢true e)
 
 pub due_full : (n k : ℕ) → is_due n k ≡ true → n * 7 ≤ k * 8
-due_full n k e = leb-true _ _ (and_right (not (eqb n 0)) (leb (n * 7) (k * 8)) e)
+due_full n k e = leb-true _ _ (both (not (eqb n 0)) (leb (n * 7) (k * 8)) e).1
 
 pub due_not : (n k : ℕ) → is_due n k ≡ false → (n ≡ 0 → ⊥) → k * 8 < n * 7
-due_not n k e ne = leb-false _ _ (not_both _ (subst (λ (b : Bool). (not b && leb (n * 7) (k * 8)) ≡ false) (ne_eqb n 0 ne) e))
+due_not n k e ne = leb-false _ _ (subst (λ (b : Bool). (not b && leb (n * 7) (k * 8)) ≡ false) (ne_eqb n 0 ne) e)
 
 pub one_or_none : (b : Bool) → cond b 1 0 ≤ 1
 one_or_none true = lit≤ tt

@@ -11,6 +11,8 @@ ghost use Rattle.model.specs.Intern.{empty_slot, move_slots, probe as probe_of_m
 ghost use Rattle.table.specs.Layout.{probe_of, wide_at, wide_words, with_start, strings_of, Starts, Entries, Work, table_of, starts_of, slot_for};
 ghost use Rattle.table.specs.Sizes.{is_due};
 
+use span::StrId;
+
 pub const INITIAL_CAPACITY: usize = 256;
 
 const LOAD_FACTOR_NUMERATOR: usize = 7;
@@ -61,12 +63,12 @@ pub fn put_start(work: &mut [u32], k: usize, v: usize)
 }
 
 // The bytes of string id, by the places where the strings start.
-pub fn string_at<'a>(starts: &[u32], strs: &'a [u8], id: u32) -> &'a [u8]
+pub fn string_at<'a>(starts: &[u32], strs: &'a [u8], id: StrId) -> &'a [u8]
     requires starts { Starts (wide_words starts.now) (length strs.now) }
-    requires id_in_bounds { id + 1 < length (wide_words starts.now) }
-    ensures { result.now ≡ get_or (strings_of (wide_words starts.now) strs.now) id [] }
+    requires id_in_bounds { id.0 + 1 < length (wide_words starts.now) }
+    ensures { result.now ≡ get_or (strings_of (wide_words starts.now) strs.now) id.0 [] }
 {
-    let i = id as usize;
+    let i = id.0 as usize;
     let a = wide_at(starts, 2 * i);
     let z = wide_at(starts, 2 * (i + 1));
     &strs[a..z]
@@ -110,7 +112,7 @@ pub fn probe(
         if e == 0 {
             return Probed { at, slot: 0, steps };
         }
-        if compare::same(string_at(starts, strs, e - 1), s) {
+        if compare::same(string_at(starts, strs, StrId(e - 1)), s) {
             return Probed { at, slot: e, steps };
         }
         at = next_slot(at, table.len());
@@ -160,7 +162,7 @@ fn place(work: &mut [u32], strs: &[u8], count: usize, n: usize, e: u32)
     let end = off + n;
     let last = STARTS + 2 * count + 2;
     let h = slot_of(
-        hash::fx_hash(string_at(&work[STARTS..last], strs, e - 1)),
+        hash::fx_hash(string_at(&work[STARTS..last], strs, StrId(e - 1))),
         n,
     );
     let p = empty_slot(&work[off..end], h);

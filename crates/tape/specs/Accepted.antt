@@ -4,22 +4,22 @@ use Rattle.std.specs.Prelude.{Some, ◌≡◌, refl, ℕ, true, List, length}
 use Rattle.std.proofs.Common.{sym, ap, ◌∙◌, subst, arith}
 use Rattle.std.proofs.Math.Option.{Option, some}
 use Rattle.std.proofs.lemmas.Option.{same_Some}
-use Rattle.model.specs.Types.{LexOutput, RegionOutput}
+use Rattle.model.specs.Types.{LexOutput}
 use Rattle.model.specs.Refusal.{Checked, Checked.refused, Checked.accepted, number_of}
 use Rattle.model.specs.Tape.{places, records_at, node_codec, book_at, parse}
 use Rattle.model.specs.WellFormed.{texts_are_utf8, within_limits, ids_ok, levels_ok, places_ok, normalized_length_ok, check_book, check_reading}
-use Rattle.laws.specs.Checks.{WellFormed, checked_book, checked_again, checked_reading, place_facts}
-use Rattle.laws.specs.Numbers.{UpTo, book_up_to, reading_up_to}
+use Rattle.laws.specs.Checks.{WellFormed, checked_book, checked_again, place_facts}
+use Rattle.laws.specs.Numbers.{UpTo, book_up_to}
 use Rattle.laws.specs.RoundTrip.{parse_laid_out}
 use Rattle.refusal.specs.Refusal.{checked_map, was_accepted}
 use Rattle.places.specs.declared.Places.{Places}
 use Rattle.places.specs.Found.{holds, found, places_of}
 use Rattle.places.specs.Again.{Frame, frame}
-use Rattle.store.specs.Stored.{StoreFits}
+use Rattle.store.specs.declared.Store.{Store}
+use Rattle.store.specs.Stored.{StoreFits, store_at, stored_layers, OfTape, of_tape}
 use Rattle.bounds.specs.Search.{InOrder, book_in_order}
-use Rattle.layout.specs.Shaped.{Laid}
-use Rattle.tape.specs.Placed.{PlacesFit, places_fit}
-use Rattle.tape.specs.Numbers.{parsed_holds, laid_store}
+use Rattle.places.specs.Walked.{PlacesFit, places_fit}
+use Rattle.tape.specs.Numbers.{parsed_holds, framed_fits, framed_limits}
 
 -- ---- the number 0 is no refusal
 
@@ -81,53 +81,11 @@ pub record AcceptedReading (t d : List ℕ) : Type 0 where
   pub one : length (book_at t (places t) d).layers ≡ 1
   pub whole : Accepted t d
 
--- `check_reading` has answered 0
-pub accepted_reading : (t d : List ℕ) → number_of (check_reading t d) ≡ 0 → AcceptedReading t d
-accepted_reading t d z =
-    let v = value_of (check_reading t d) (reading_up_to 7 (omega arith) t d) z in
-    let c = checked_reading t d v.0 v.1 in
-    let q = (parse_laid_out t d v.0 c.0).1 in
-    record {
-      reading = v.1 ∙ ap {B = Checked LexOutput} accepted (sym q);
-      one = ap (λ (b : LexOutput). length b.layers) q ∙ c.1;
-      whole = whole t d v.0 c.0 c.2;
-    }
-
--- ---- where `check_book` is passed; the places that `checked_book` and `checked_reading` hand on
-
--- a book that passed, its records standing there
-pub record Passed (t d : List ℕ) (p : Places) : Type 0 where
-  pub whole : Accepted t d
-  pub is : p ≡ found t
-
-pub record PassedReading (t d : List ℕ) (p : Places) : Type 0 where
-  pub reading : AcceptedReading t d
-  pub is : p ≡ found t
+-- ---- where `check_book` is passed
 
 pub passed_whole : {t d : List ℕ} → accepted (tt {0}) ≡ checked_map (λ _. tt {0}) (check_book t d) → Accepted t d
 passed_whole {t} {d} e =
     let v = was_accepted (λ (b : LexOutput). tt {0}) (check_book t d) e in let c = checked_book t d v.0 v.1 in whole t d v.0 c.0 c.1
-
-module _ {t d : List ℕ} {p : Places} where
-  pub passed_book : accepted p ≡ checked_map (λ _. found t) (check_book t d) → Passed t d p
-  passed_book e =
-      let v = was_accepted (λ (b : LexOutput). found t) (check_book t d) e in
-      let c = checked_book t d v.0 v.1 in
-      record { whole = whole t d v.0 c.0 c.1; is = v.2 }
-
-  pub passed_reading : accepted p ≡ checked_map (λ _. found t) (check_reading t d) → PassedReading t d p
-  passed_reading e =
-      let v = was_accepted (λ (b : RegionOutput). found t) (check_reading t d) e in
-      let c = checked_reading t d v.0 v.1 in
-      let q = (parse_laid_out t d v.0 c.0).1 in
-      record {
-        reading = record {
-          reading = v.1 ∙ ap {B = Checked LexOutput} accepted (sym q);
-          one = ap (λ (b : LexOutput). length b.layers) q ∙ c.1;
-          whole = whole t d v.0 c.0 c.2;
-        };
-        is = v.2;
-      }
 
 -- ---- what the code may ask then
 
@@ -140,14 +98,15 @@ pub accepted_place : {t d : List ℕ} → Accepted t d → {p : Places} → Some
 accepted_place {t} a {p} e = same_Some p (found t) (e ∙ accepted_found a)
 
 module _ {t d : List ℕ} (a : Accepted t d) {p : Places} (e : p ≡ found t) where
-  pub accepted_laid : Laid t d p
-  accepted_laid = record { is = e; framing = a.framing; book = a.parsed }
-
   pub accepted_places : PlacesFit t p
   accepted_places = places_fit t d p a.framing e
 
   pub accepted_store : StoreFits t p.layers
-  accepted_store = laid_store accepted_laid a.limits
+  accepted_store =
+      let q : places_of t d ≡ Some p = accepted_found a ∙ ap (λ (x : Places). Some x) (sym e) in framed_fits t d q (framed_limits t d q ∙ a.limits)
+
+  pub accepted_tape : {st : Store} → st ≡ store_at t → OfTape t st
+  accepted_tape {st} s = let n = stored_layers t s in of_tape t d a.framing st s (omega (arith, n, accepted_store.count, accepted_store.few))
 
   pub accepted_order : InOrder (records_at node_codec t p.nodes.at p.nodes.count)
   unfolding book_at found

@@ -1,30 +1,32 @@
 -- The number of an answer by the first condition that holds, for each return of the code.
-use Rattle.std.specs.Prelude.{◌≡◌, ℕ, ◌<◌, ◌≤◌, Bool, true, false, cond, List, length, eqb}
+use Rattle.std.specs.Prelude.{Option, Some, None, ◌≡◌, ℕ, ◌<◌, Bool, true, false, cond, List, length, eqb}
 use Rattle.std.proofs.Math.Path.{refl, sym, ap}
 use Rattle.std.proofs.Common.{◌∙◌, arith}
-use Rattle.std.proofs.Math.Option.{none, some}
+use Rattle.std.proofs.Math.Option.{Option as ModelOption, none, some}
+use Rattle.std.proofs.lemmas.Option.{none-some, same_Some}
 use borrow.Author.Tests.{eq-eqb, ne_eqb}
 use Rattle.model.specs.Types.{LexOutput}
 use Rattle.model.specs.Refusal.{Checked.refused, ◌>>=◌, refuse◌if◌, number_of}
 use Rattle.model.specs.Tape.{places, book_at, parse}
 use Rattle.model.specs.WellFormed.{texts_are_utf8, within_limits, ids_ok, levels_ok, places_ok, normalized_length_ok, laid_out, well_formed, check_book, check_reading}
+use Rattle.facts.specs.Truth.{by_bool}
 use Rattle.laws.specs.Checks.{limit_facts}
-use Rattle.wire.specs.Loops.{by_bool}
+use Rattle.laws.specs.RoundTrip.{parse_laid_out}
 use Rattle.refusal.specs.declared.Refusal.{Refusal}
 use Rattle.refusal.specs.declared.Refusal.TheVariants.{Layout}
 use Rattle.refusal.specs.Refusal.{number}
 use Rattle.places.specs.declared.Places.{Places}
-use Rattle.places.specs.Found.{holds, found}
-use Rattle.places.specs.Again.{lists_inside}
-use Rattle.layout.specs.Shaped.{Laid}
+use Rattle.places.specs.Found.{holds, places_of}
+use Rattle.places.specs.Again.{Frame, frame, Parsed, places_parsed}
+use Rattle.places.specs.Walked.{PlacesFit, places_fit}
 use Rattle.texts.specs.Limits.{few_enough, few_within}
 use Rattle.store.specs.declared.Store.{Store}
-use Rattle.store.specs.Stored.{StoreFits, store_at, found_fits, OfTape}
-use Rattle.store.specs.Lengths.{book_lengths}
-use Rattle.ids.specs.Whole.{IdsFit, ids_are}
+use Rattle.store.specs.Stored.{StoreFits, store_at, stored_layers, found_fits, OfTape, of_tape}
+use Rattle.store.specs.Lengths.{BookLengths, book_lengths}
+use Rattle.ids.specs.Whole.{ids_are}
 use Rattle.levels.specs.Whole.{levels_in}
 use Rattle.levels.specs.Number.{levels_are}
-use Rattle.tape.specs.Placed.{places_number, PlacesFit, places_fit}
+use Rattle.tape.specs.Placed.{places_number}
 
 -- ---- numbers 2 to 7 of a book, in three stages
 
@@ -89,9 +91,13 @@ module _ (t d : List ℕ) where
     unfolding check_reading laid_out refuse◌if◌ ◌>>=◌
     reading_layers n = rw (e, ne_eqb (length b.layers) 1 n) refl
 
-    pub reading_one : {r : ℕ} → length b.layers ≡ 1 → r ≡ book_number b → r ≡ number_of (check_reading t d)
-    unfolding check_reading laid_out refuse◌if◌ ◌>>=◌
-    reading_one n q = rw (e, eq-eqb (length b.layers) 1 n) (q ∙ sym (number_well_formed b))
+    pub reading_one : length b.layers ≡ 1 → check_reading t d ≡ check_book t d
+    unfolding check_book check_reading laid_out refuse◌if◌ ◌>>=◌
+    reading_one n = rw (e, eq-eqb (length b.layers) 1 n) refl
+
+  reading_unread : parse t d ≡ none → check_reading t d ≡ check_book t d
+  unfolding check_book check_reading laid_out ◌>>=◌
+  reading_unread e = rw e refl
 
 -- ---- the stages
 
@@ -120,17 +126,6 @@ module _ (b : LexOutput) where
   unfolding pools_number
   pools_pass e f = rw (e, f) refl
 
-  -- number 3 has passed
-  pub texts_limits : {n : ℕ} → n ≡ texts_number b → n ≡ 0 → within_limits b ≡ true
-  unfolding texts_number
-  texts_limits {n} e z =
-      by_bool (texts_are_utf8 b)
-      (λ u.
-      by_bool (within_limits b)
-      (λ l. l)
-      (λ l. let q : n ≡ 3 = e ∙ rw (u, l) refl in absurd (omega (arith, q, z))))
-      (λ u. let q : n ≡ 2 = e ∙ rw u refl in absurd (omega (arith, q, z)))
-
   module _ {n : ℕ} (e : n ≡ texts_number b) where
     pub book_texts : 0 < n → n ≡ book_number b
     unfolding book_number or_else
@@ -145,25 +140,12 @@ module _ (b : LexOutput) where
       unfolding book_number or_else
       book_places h q = rw (← e, eq-eqb n 0 z, ← g, eq-eqb m 0 h) q
 
--- ---- what the pools ask
-
-module _ {t : List ℕ} {p : Places} {st : Store} (f : PlacesFit t p) (g : StoreFits t p.layers) (s : st ≡ store_at t) where
-  pub store_few : st.layers ≤ 32
-  unfolding store_at
-  store_few = let m = ap (λ (x : Store). x.layers) s in omega (arith, m, g.count, g.few)
-
-  pub pools_ids : IdsFit t st p
-  pools_ids = let l = lists_inside t in record { is = f.is; stored = s; few = store_few; inside = omega (arith, f.inside, l.pairs, l.containers, l.diagnostics) }
-
-  pub pools_levels : OfTape t st
-  pools_levels = let l = lists_inside t in record { stored = s; few = store_few; inside = omega (arith, f.inside, l.nodes, l.pairs, l.containers, l.diagnostics) }
-
 -- where number 4 has passed, the levels' answer is number 5
 pub levels_pass : (t : List ℕ) (st : Store) {x y : Bool} → st ≡ store_at t → ((d : List ℕ) → x ≡ ids_ok (book_at t (places t) d)) → x ≡ true → y ≡ levels_in t st
     → (d : List ℕ) → levels_ok (book_at t (places t) d) ≡ y
 levels_pass t st s i h e d = sym (e ∙ levels_are t st s (ids_are t st s d ∙ sym (i d) ∙ h) d)
 
--- ---- what a tape that is laid out gives to the stages
+-- ---- a tape whose frame holds
 
 not_none : (b : LexOutput) → none ≡ some b → ⊥
 not_none b e = let z : ◌≡◌ {A = ℕ} 0 1 = cc in omega arith
@@ -172,38 +154,65 @@ pub parsed_holds : (t d : List ℕ) (b : LexOutput) → parse t d ≡ some b →
 unfolding holds parse
 parsed_holds t d b e = by_bool (holds t d) (λ h. h) (λ h. absurd (not_none b (sym (let q : parse t d ≡ none = rw h refl in q) ∙ e)))
 
-laid_holds : {t d : List ℕ} {p : Places} → Laid t d p → holds t d ≡ true
-laid_holds {t} {d} l = parsed_holds t d (book_at t (places t) d) l.book
+-- the store of a tape that number 3 lets have one
+unfoldable pub store_if : List ℕ → Places → Option Store
+store_if t p = cond (few_enough p) (Some (store_at t)) None
 
-module _ {t d : List ℕ} {p : Places} (l : Laid t d p) where
-  pub laid_texts : (p ≡ found t) × (holds t d ≡ true)
-  laid_texts = (l.is, laid_holds l)
+module _ (t d : List ℕ) {p : Places} (e : places_of t d ≡ Some p) where
+  parsed : Parsed t d p
+  parsed = places_parsed t d e
 
-  pub laid_limits : {x : Bool} → x ≡ few_enough p → within_limits (book_at t (places t) d) ≡ x
-  laid_limits e = sym (e ∙ few_within t d p (laid_holds l) l.is)
+  pub framed_frame : Frame t d
+  framed_frame = frame t d parsed.holding
 
-  pub laid_places : PlacesFit t p
-  laid_places = places_fit t d p l.framing l.is
+  pub framed_places : PlacesFit t p
+  framed_places = places_fit t d p framed_frame parsed.is
 
-  -- as a store asks, number 3 having passed
-  module _ (w : within_limits (book_at t (places t) d) ≡ true) where
-    pub laid_few : p.layers ≤ 32
-    laid_few =
-        let f = limit_facts (book_at t (places t) d) w in
-        let b = book_lengths t d p l.framing l.is in
-        omega (arith, f.layers, b.layers)
+  lengths : BookLengths (book_at t (places t) d) p
+  lengths = book_lengths t d p framed_frame parsed.is
 
-    pub laid_store : StoreFits t p.layers
-    laid_store =
-        let f = limit_facts (book_at t (places t) d) w in
-        let b = book_lengths t d p l.framing l.is in
-        found_fits t p l.is laid_few (omega (arith, f.strings, b.strings)) (omega (arith, f.contents, b.contents)) (omega (arith, f.segments, b.segments))
+  -- number 3
+  pub framed_limits : few_enough p ≡ within_limits (book_at t (places t) d)
+  framed_limits = few_within t d p parsed.holding parsed.is
 
-  pub laid_pools : within_limits (book_at t (places t) d) ≡ true → PlacesFit t p × StoreFits t p.layers
-  laid_pools w = (laid_places, laid_store w)
+  -- where it has passed a store may be made, and is that of the tape
+  pub framed_fits : few_enough p ≡ true → StoreFits t p.layers
+  framed_fits h =
+      let f = limit_facts (book_at t (places t) d) (sym framed_limits ∙ h) in
+      found_fits t p parsed.is (omega (arith, f.layers, lengths.layers)) (omega (arith, f.strings, lengths.strings)) (omega (arith, f.contents, lengths.contents))
+      (omega (arith, f.segments, lengths.segments))
 
-  pub laid_one : p.layers ≡ 1 → length (book_at t (places t) d).layers ≡ 1
-  laid_one e = (book_lengths t d p l.framing l.is).layers ∙ e
+  module _ {o : Option Store} (g : o ≡ store_if t p) where
+    pub framed_store : (st : Store) → o ≡ Some st → OfTape t st × (within_limits (book_at t (places t) d) ≡ true)
+    unfolding store_if
+    framed_store st q =
+        by_bool (few_enough p)
+        (λ h.
+        let s = sym (same_Some (store_at t) st (let x : Some (store_at t) ≡ Some st = rw h at (sym g ∙ q) in x)) in
+        let f = framed_fits h in
+        let n = stored_layers t s in
+        (of_tape t d framed_frame st s (omega (arith, n, f.count, f.few)), sym framed_limits ∙ h))
+        (λ h. let x : None ≡ Some st = rw h at (sym g ∙ q) in absurd (none-some st x))
 
-  pub laid_other : (p.layers ≡ 1 → ⊥) → length (book_at t (places t) d).layers ≡ 1 → ⊥
-  laid_other n e = n (sym (book_lengths t d p l.framing l.is).layers ∙ e)
+    pub framed_none : ((st : Store) → o ≡ Some st → ⊥) → within_limits (book_at t (places t) d) ≡ false
+    unfolding store_if
+    framed_none n = by_bool (few_enough p) (λ h. absurd (n (store_at t) (g ∙ rw h refl))) (λ h. sym framed_limits ∙ h)
+
+  -- a reading has exactly one layer
+  layers_of : (b : LexOutput) → parse t d ≡ some b → length b.layers ≡ p.layers
+  layers_of b q = ap (λ (x : LexOutput). length x.layers) (sym (parse_laid_out t d b q).1) ∙ lengths.layers
+
+  pub framed_one : p.layers ≡ 1 → (length (book_at t (places t) d).layers ≡ 1) × (check_reading t d ≡ check_book t d)
+  framed_one n = (lengths.layers ∙ n, go (parse t d) refl)
+    where
+      go : (x : ModelOption LexOutput) → parse t d ≡ x → check_reading t d ≡ check_book t d
+      go none q = reading_unread t d q
+      go (some b) q = reading_one t d b q (layers_of b q ∙ n)
+
+  pub framed_other : (p.layers ≡ 1 → ⊥) → check_reading t d ≡ refused 1
+  unfolding check_reading laid_out ◌>>=◌
+  framed_other n = go (parse t d) refl
+    where
+      go : (x : ModelOption LexOutput) → parse t d ≡ x → check_reading t d ≡ refused 1
+      go none q = rw q refl
+      go (some b) q = reading_layers t d b q (λ o. n (sym (layers_of b q) ∙ o))

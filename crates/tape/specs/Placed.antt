@@ -1,5 +1,5 @@
 -- Numbers 6 and 7 of a tape's book: what the code tests, by the places that were found, and that it is the model's.
-use Rattle.std.specs.Prelude.{Option, Some, None, ◌≡◌, ℕ, ◌+◌, ◌-◌, ◌*◌, ◌≤◌, ◌<◌, Bool, true, false, cond, ◌&&◌, List, length, eqb}
+use Rattle.std.specs.Prelude.{Option, Some, None, ◌≡◌, ℕ, ◌+◌, ◌-◌, ◌≤◌, ◌<◌, Bool, true, false, cond, ◌&&◌, List, length, eqb}
 use Rattle.std.proofs.Math.Path.{refl, sym}
 use Rattle.std.proofs.Common.{ap, ◌∙◌, arith, eqb-true, eq-eqb, ne_eqb}
 use Rattle.std.proofs.Math.Bool.{and-false}
@@ -7,10 +7,11 @@ use Rattle.model.specs.Lists.{all}
 use Rattle.model.specs.Types.{LexOutput}
 use Rattle.model.specs.Tape.{places, records_at, book_at, node_codec, pair_codec, container_codec, diagnostic_codec}
 use Rattle.model.specs.WellFormed.{pair_ok, container_ok, diagnostic_ok, places_ok, images, spans, normalized_length_ok}
-use Rattle.wire.specs.Loops.{by_bool}
+use Rattle.facts.specs.Truth.{and_turn, by_bool}
 use Rattle.places.specs.declared.Places.{Places}
 use Rattle.places.specs.Found.{found}
-use Rattle.places.specs.Again.{Frame, lists_inside}
+use Rattle.places.specs.Again.{Frame}
+pub use Rattle.places.specs.Walked.{PlacesFit, places_fit, fit_nodes, fit_pairs, fit_containers, fit_diagnostics}
 use Rattle.store.specs.Lengths.{book_lengths}
 use Rattle.bounds.specs.Walk.{nodes_in_place, sums_if_placed}
 use Rattle.bounds.specs.declared.Sums.{Sums}
@@ -33,34 +34,9 @@ drift_number text normalized (Some s) = cond (lengths_agree text normalized s.im
 -- Number 6 of pairs, containers and diagnostics.
 unfoldable pub lists_placed : List ℕ → Places → Bool
 lists_placed t p =
-    all (pair_ok p.text) (records_at pair_codec t p.pairs.at p.pairs.count)
-    && all (container_ok p.normalized) (records_at container_codec t p.containers.at p.containers.count)
-    && all (diagnostic_ok p.text) (records_at diagnostic_codec t p.diagnostics.at p.diagnostics.count)
-
--- what the code may ask
-pub record PlacesFit (t : List ℕ) (p : Places) : Type 0 where
-  pub is : p ≡ found t
-  pub inside : (places t).end_at ≤ length t
-
-pub places_fit : (t d : List ℕ) (p : Places) → Frame t d → p ≡ found t → PlacesFit t p
-places_fit t d p f e = record { is = e; inside = omega (arith, f.size) }
-
-module _ {t : List ℕ} {p : Places} (f : PlacesFit t p) where
-  pub fit_nodes : p.nodes.at + 49 * p.nodes.count ≤ length t
-  unfolding found
-  fit_nodes = let l = lists_inside t in rw f.is (omega (arith, f.inside, l.nodes, l.pairs, l.containers, l.diagnostics))
-
-  pub fit_pairs : p.pairs.at + 18 * p.pairs.count ≤ length t
-  unfolding found
-  fit_pairs = let l = lists_inside t in rw f.is (omega (arith, f.inside, l.pairs, l.containers, l.diagnostics))
-
-  pub fit_containers : p.containers.at + 13 * p.containers.count ≤ length t
-  unfolding found
-  fit_containers = let l = lists_inside t in rw f.is (omega (arith, f.inside, l.containers, l.diagnostics))
-
-  pub fit_diagnostics : p.diagnostics.at + 18 * p.diagnostics.count ≤ length t
-  unfolding found
-  fit_diagnostics = let l = lists_inside t in rw f.is (omega (arith, f.inside, l.diagnostics))
+    all (pair_ok p.text.0) (records_at pair_codec t p.pairs.at p.pairs.count)
+    && all (container_ok p.normalized.0) (records_at container_codec t p.containers.at p.containers.count)
+    && all (diagnostic_ok p.text.0) (records_at diagnostic_codec t p.diagnostics.at p.diagnostics.count)
 
 -- ---- number 7 without a sum that could be too large
 
@@ -89,17 +65,17 @@ module _ (text normalized images spans : ℕ) where
 
 -- ---- the answers of the code
 
-module _ (t : List ℕ) (p : Places) {x : Bool} (e : x ≡ all (pair_ok p.text) (records_at pair_codec t p.pairs.at p.pairs.count)) where
+module _ (t : List ℕ) (p : Places) {x : Bool} (e : x ≡ all (pair_ok p.text.0) (records_at pair_codec t p.pairs.at p.pairs.count)) where
   pub pairs_bad : x ≡ false → false ≡ lists_placed t p
   unfolding lists_placed
   pairs_bad f = rw (← e, f) refl
 
-  module _ {y : Bool} (g : y ≡ all (container_ok p.normalized) (records_at container_codec t p.containers.at p.containers.count)) where
+  module _ {y : Bool} (g : y ≡ all (container_ok p.normalized.0) (records_at container_codec t p.containers.at p.containers.count)) where
     pub containers_bad : y ≡ false → false ≡ lists_placed t p
     unfolding lists_placed
     containers_bad h = rw (← g, h, and-false) refl
 
-    pub lists_end_lem : x ≡ true → y ≡ true → {z : Bool} → z ≡ all (diagnostic_ok p.text) (records_at diagnostic_codec t p.diagnostics.at p.diagnostics.count)
+    pub lists_end_lem : x ≡ true → y ≡ true → {z : Bool} → z ≡ all (diagnostic_ok p.text.0) (records_at diagnostic_codec t p.diagnostics.at p.diagnostics.count)
         → z ≡ lists_placed t p
     unfolding lists_placed
     lists_end_lem f h k = rw (← e, f, ← g, h) k
@@ -111,16 +87,12 @@ unfoldable lists_ok : ℕ → ℕ → LexOutput → Bool
 lists_ok text normalized b =
     all (pair_ok text) b.pairs && all (container_ok normalized) b.container_pairs && all (diagnostic_ok text) b.diagnostics
 
-and_turn : (v x y z : Bool) → v && x && y && z ≡ v && (x && y && z)
-and_turn true x y z = refl
-and_turn false x y z = refl
-
 module _ (b : LexOutput) where
   places_split : places_ok b ≡ (nodes_in_place (length b.sanitized) b.source_nodes && lists_ok (length b.sanitized) (length b.normalized) b)
   unfolding places_ok lists_ok
   places_split =
-      and_turn (nodes_in_place (length b.sanitized) b.source_nodes) (all (pair_ok (length b.sanitized)) b.pairs)
-      (all (container_ok (length b.normalized)) b.container_pairs) (all (diagnostic_ok (length b.sanitized)) b.diagnostics)
+      and_turn (nodes_in_place (length b.sanitized) b.source_nodes) _ (all (pair_ok (length b.sanitized)) b.pairs)
+      (all (container_ok (length b.normalized)) b.container_pairs) (all (diagnostic_ok (length b.sanitized)) b.diagnostics) refl
 
   lists_six : lists_ok (length b.sanitized) (length b.normalized) b ≡ false → 6 ≡ places_number b
   unfolding places_number
@@ -133,7 +105,7 @@ module _ (b : LexOutput) where
       by_bool (nodes_in_place (length b.sanitized) b.source_nodes) (λ n. rw (places_split, f, n) refl) (λ n. rw (places_split, f, n) refl)
 
 module _ (t d : List ℕ) {p : Places} (f : Frame t d) (e : p ≡ found t) where
-  lists_here : lists_placed t p ≡ lists_ok p.text p.normalized (book_at t (places t) d)
+  lists_here : lists_placed t p ≡ lists_ok p.text.0 p.normalized.0 (book_at t (places t) d)
   unfolding lists_placed lists_ok found book_at
   lists_here = rw e refl
 
@@ -147,10 +119,10 @@ module _ (t d : List ℕ) {p : Places} (f : Frame t d) (e : p ≡ found t) where
   pub places_six : {x : Bool} → x ≡ lists_placed t p → x ≡ false → 6 ≡ places_number (book_at t (places t) d)
   places_six g h = lists_six (book_at t (places t) d) (sym lists_are ∙ sym g ∙ h)
 
-  pub places_drift : {x : Bool} {r : ℕ} → x ≡ lists_placed t p → x ≡ true → (k : Option Sums) → k ≡ sums_if_placed p.text (records_at node_codec t p.nodes.at p.nodes.count)
-      → r ≡ drift_number p.text p.normalized k → r ≡ places_number (book_at t (places t) d)
+  pub places_drift : {x : Bool} {r : ℕ} → x ≡ lists_placed t p → x ≡ true → (k : Option Sums) → k ≡ sums_if_placed p.text.0 (records_at node_codec t p.nodes.at p.nodes.count)
+      → r ≡ drift_number p.text.0 p.normalized.0 k → r ≡ places_number (book_at t (places t) d)
   places_drift g h k m q =
       let l = book_lengths t d p f e in
       let a = lists_drift (book_at t (places t) d) (sym lists_are ∙ sym g ∙ h) in
-      let n : k ≡ sums_if_placed p.text (book_at t (places t) d).source_nodes = m ∙ ap (sums_if_placed p.text) nodes_are in
-      q ∙ ap (drift_number p.text p.normalized) n ∙ (rw (l.text, l.normalized) at a)
+      let n : k ≡ sums_if_placed p.text.0 (book_at t (places t) d).source_nodes = m ∙ ap (sums_if_placed p.text.0) nodes_are in
+      q ∙ ap (drift_number p.text.0 p.normalized.0) n ∙ (rw (l.text, l.normalized) at a)

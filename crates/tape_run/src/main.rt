@@ -4,6 +4,7 @@
 #![tactic(auto)]
 
 use refusal::Refusal;
+use span::{SourceOffset, StrId};
 use std::io;
 use std::io::Read;
 
@@ -89,10 +90,10 @@ fn ask(rt: &impl Print, c: cases::Case) -> io::Result<()> {
         print!(rt; "{word}")
     })?;
     print!(rt; "\n  node at {start}: ")?;
-    let node = lookup::node_at_source(tape, bytes, start);
+    let node = lookup::node_at_source(tape, bytes, SourceOffset(start));
     put_found(rt, node, |i| print!(rt; "{i}"))?;
     print!(rt; "\n  string {start}: ")?;
-    let string = lookup::lookup_str(tape, bytes, start);
+    let string = lookup::lookup_str(tape, bytes, StrId(start));
     put_found(rt, string, |s| put_string(rt, bytes, s.start, s.end))?;
     print!(rt; "\n  contents {start} {end}: ")?;
     let contents = lookup::lookup_contents(tape, bytes, start, end);

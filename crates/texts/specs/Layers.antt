@@ -1,16 +1,17 @@
--- Number 2, the strings of all layers: what a loop over `next_layer` knows before layer i, whose 2 stands at `at` and whose
--- strings stand at `place`.
-use Rattle.std.specs.Prelude.{◌≡◌, refl, ℕ, suc, ◌+◌, ◌*◌, ◌≤◌, ◌<◌, Bool, true, false, ◌&&◌, List, [], ◌∷◌, length, drop, Option, Some}
+-- Number 2, the strings of all layers: what a loop over them knows before layer i, whose 2 stands at `at` and whose strings
+-- stand at `place`.
+use Rattle.std.specs.Prelude.{◌≡◌, refl, ℕ, suc, ◌+◌, ◌≤◌, ◌<◌, Bool, true, false, ◌&&◌, List, [], ◌∷◌, length, drop, Option, Some}
 use Rattle.std.proofs.Common.{sym, ap, ◌∙◌, arith, add-one, drop_of_length-le, drop-cons, drop-drop}
 use Rattle.model.specs.Lists.{all, sum}
 use Rattle.model.specs.Types.{Layer}
 use Rattle.model.specs.Utf8.{utf8}
 use Rattle.model.specs.Tape.{LayerPlaces, layer_places, places, records_at, string_codec, string_lengths, layer_at, layers_at, pieces}
-use Rattle.laws.specs.Lists.{both}
-use Rattle.laws.specs.RoundTrip.{layer_end, string_bytes}
+use Rattle.facts.specs.Truth.{both}
+use Rattle.laws.specs.RoundTrip.{string_bytes}
 use Rattle.places.specs.declared.LayerRuns.{LayerRuns}
 use Rattle.places.specs.Found.{layer_runs}
-use Rattle.places.specs.Again.{AtLayer, at_first, at_inside, at_here, at_next, at_before}
+use Rattle.places.specs.Again.{AtLayer, at_first, at_here}
+use Rattle.places.specs.Walked.{nth_runs, nth_here, nth_next}
 use Rattle.texts.specs.Strings.{pieces_behind, strings_end, end_none, end_some}
 
 -- each string of a layer by itself
@@ -30,12 +31,6 @@ layers_behind t (l ∷ ls) b e =
     let w = both (all utf8 (pieces ns b)) (layers_utf8 t ls (drop (sum ns) b)) e in
     pieces_behind ns b w.0 ∙ layers_behind t ls (drop (sum ns) b) w.1 ∙ ap utf8 (drop-drop (string_bytes t ls) (sum ns) b)
 
--- what a frame that holds gives
-pub record LayersFit (t d : List ℕ) (layers from : ℕ) : Type 0 where
-  pub count : layers ≡ length (places t).layers
-  pub inside : (places t).nodes_at ≤ length t
-  pub bytes : from + string_bytes t (places t).layers ≤ length d
-
 pub record LayersLeft (t d : List ℕ) (from i at place : ℕ) : Type 0 where
   pub here : AtLayer t i at
   pub is : layers_utf8 t (places t).layers (drop from d) ≡ layers_utf8 t (drop i (places t).layers) (drop place d)
@@ -45,15 +40,8 @@ pub record LayersLeft (t d : List ℕ) (from i at place : ℕ) : Type 0 where
 pub layers_none : (t d : List ℕ) (from : ℕ) → utf8 (drop from d) ≡ true → LayersLeft t d from 0 9 from
 layers_none t d from w = record { here = at_first t; is = refl; bytes = refl; whole = w }
 
-module _ {t d : List ℕ} {from i at place : ℕ} (s : LayersLeft t d from i at place) {layers : ℕ} (fits : LayersFit t d layers from) where
-  module _ (h : i < layers) where
-    inside : i < length (places t).layers
-    inside = omega (arith, fits.count, h)
-
-    -- as `next_layer` asks
-    pub layers_inside : at < length t
-    layers_inside = at_inside s.here inside
-
+module _ {t d : List ℕ} {from i at place : ℕ} (s : LayersLeft t d from i at place) where
+  module _ (inside : i < length (places t).layers) where
     left : drop i (places t).layers ≡ layer_places t at ∷ drop (i + 1) (places t).layers
     left =
         let ls = (places t).layers in
@@ -64,24 +52,17 @@ module _ {t d : List ℕ} {from i at place : ℕ} (s : LayersLeft t d from i at 
     total : place + (sum (string_lengths t (layer_places t at)) + string_bytes t (drop (i + 1) (places t).layers)) ≡ from + string_bytes t (places t).layers
     total = let q = ap (string_bytes t) left in omega (arith, q, s.bytes)
 
-    module _ {l : LayerRuns} (e : l ≡ layer_runs (layer_places t at)) where
+    module _ {l : LayerRuns} (is : l ≡ nth_runs t i) where
+      e : l ≡ layer_runs (layer_places t at)
+      e = is ∙ nth_here s.here inside
+
       lengths : records_at string_codec t l.strings.at l.strings.count ≡ string_lengths t (layer_places t at)
       unfolding string_lengths
       lengths = ap (λ (x : LayerRuns). records_at string_codec t x.strings.at x.strings.count) e
 
       -- as `strings_end` asks
-      pub layers_records : l.strings.at + 5 * l.strings.count ≤ length t
-      unfolding layer_places
-      layers_records =
-          let a : l.strings.at ≡ at + 1 = ap (λ (x : LayerRuns). x.strings.at) e in
-          let n = ap (λ (x : LayerRuns). x.strings.count) e in
-          let z = ap (λ (x : LayerRuns). x.end) e in
-          let b = at_before s.here inside e in
-          let g = layer_end t at in
-          omega (arith, a, n, z, b, g, fits.inside)
-
-      pub layers_bytes : place + sum (records_at string_codec t l.strings.at l.strings.count) ≤ length d
-      layers_bytes = let q = ap sum lengths in omega (arith, q, total, fits.bytes)
+      pub layers_bytes : from + string_bytes t (places t).layers ≤ length d → place + sum (records_at string_codec t l.strings.at l.strings.count) ≤ length d
+      layers_bytes fits = let q = ap sum lengths in omega (arith, q, total, fits)
 
       split : layers_utf8 t (places t).layers (drop from d)
           ≡ (all utf8 (pieces (records_at string_codec t l.strings.at l.strings.count) (drop place d))
@@ -104,13 +85,13 @@ module _ {t d : List ℕ} {from i at place : ℕ} (s : LayersLeft t d from i at 
             let w = end_some ns d place q h in
             let m : end ≡ place + sum (string_lengths t (layer_places t at)) = w.1 ∙ ap (λ (x : List ℕ). place + sum x) lengths in
             record {
-              here = at_next s.here inside e;
+              here = nth_next s.here inside is;
               is = split ∙ rw w.0 (ap (λ (k : ℕ). layers_utf8 t (drop (i + 1) (places t).layers) (drop k d)) (sym m));
               bytes = omega (arith, total, m);
               whole = ap (λ (k : ℕ). utf8 (drop k d)) w.1 ∙ ap utf8 (sym (drop-drop (sum ns) place d)) ∙ sym (pieces_behind ns (drop place d) w.0) ∙ s.whole;
             }
 
-  pub layers_all : layers ≤ i → true ≡ layers_utf8 t (places t).layers (drop from d)
+  pub layers_all : i ≡ length (places t).layers → true ≡ layers_utf8 t (places t).layers (drop from d)
   unfolding layers_at
   layers_all h =
-      sym (s.is ∙ ap (λ (x : List LayerPlaces). layers_utf8 t x (drop place d)) (drop_of_length-le (places t).layers {i = i} (omega (arith, fits.count, h))))
+      sym (s.is ∙ ap (λ (x : List LayerPlaces). layers_utf8 t x (drop place d)) (drop_of_length-le (places t).layers {i = i} (omega (arith, h))))

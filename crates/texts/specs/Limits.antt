@@ -11,7 +11,7 @@ use Rattle.store.specs.Lengths.{book_lengths}
 -- Number 3. Texts, pools, lists and layers are few enough.
 unfoldable pub few_enough : Places → Bool
 few_enough p =
-    leb p.text max_text && leb p.normalized max_text
+    leb p.text.0 max_text && leb p.normalized.0 max_text
     && leb p.strings max_pool && leb p.contents max_pool && leb p.segments max_pool
     && leb p.nodes.count max_list && leb p.pairs.count max_list && leb p.containers.count max_list && leb p.diagnostics.count max_list
     && leb p.layers max_layers

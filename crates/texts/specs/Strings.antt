@@ -4,11 +4,11 @@ use Rattle.std.proofs.Common.{refl, sym, ap, ◌∙◌, arith, add-one, drop-con
 use Rattle.model.specs.Lists.{all, sum}
 use Rattle.model.specs.Utf8.{utf8}
 use Rattle.model.specs.Tape.{records_at, record_at, operands_at, string_codec, pieces}
-use Rattle.laws.specs.Lists.{both, get_d_tabulate}
+use Rattle.facts.specs.Truth.{both, by_bool}
+use Rattle.facts.specs.Lists.{get_d_tabulate}
+use Rattle.laws.specs.Records.{run_length}
 use Rattle.laws.specs.Utf8.{utf8_behind}
-use Rattle.wire.specs.Loops.{by_bool}
 use Rattle.places.specs.Runs.{length_at}
-use Rattle.store.specs.Standing.{length_records}
 
 -- strings of these lengths, the first at the head of b
 abbrev pub pieces_utf8 : List ℕ → List ℕ → Bool
@@ -56,7 +56,7 @@ lengths_left : (t : List ℕ) (at count i n : ℕ) → i < count → n ≡ lengt
     → drop i (records_at string_codec t at count) ≡ n ∷ drop (i + 1) (records_at string_codec t at count)
 lengths_left t at count i n h e =
     let ns = records_at string_codec t at count in
-    let l = length_records string_codec t at count in
+    let l = run_length string_codec t at count in
     drop-cons ns i 0 (omega (arith, l, h))
     ∙ ap (λ (x : ℕ). x ∷ drop (suc i) ns) (length_here t at count i h ∙ sym e)
     ∙ ap (λ (k : ℕ). n ∷ drop k ns) (sym (add-one i))
@@ -100,7 +100,7 @@ module _ {t : List ℕ} {at count : ℕ} {d : List ℕ} {from i place : ℕ} (s 
   unfolding pieces
   strings_all h =
       let ns = records_at string_codec t at count in
-      let l = length_records string_codec t at count in
+      let l = run_length string_codec t at count in
       let none : drop i ns ≡ [] = drop_of_length-le ns {i = i} (omega (arith, l, h)) in
       let g = end_good ns d from (s.is ∙ ap (λ (x : List ℕ). all utf8 (pieces x (drop place d))) none) in
       let z = ap sum none in

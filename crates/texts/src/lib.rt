@@ -9,26 +9,26 @@ ghost use Rattle.model.specs.Lists.{all, sum};
 ghost use Rattle.model.specs.Utf8.{utf8};
 ghost use Rattle.model.specs.Tape.{records_at, string_codec, places as places_in, layers_at, book_at};
 ghost use Rattle.model.specs.WellFormed.{texts_are_utf8};
-ghost use Rattle.places.specs.Found.{holds, found};
+ghost use Rattle.laws.specs.RoundTrip.{string_bytes};
+ghost use Rattle.places.specs.Found.{found};
+ghost use Rattle.places.specs.Again.{Frame};
 ghost use Rattle.texts.specs.Limits.{few_enough};
 ghost use Rattle.texts.specs.Strings.{strings_end};
-ghost use Rattle.texts.specs.Layers.{layer_utf8, LayersFit};
+ghost use Rattle.texts.specs.Layers.{layer_utf8};
 
-const MAX_TEXT: u32 = 16777215;
+use numbers::{HEAD_SIZE, MAX_LAYERS, MAX_LIST, MAX_POOL, STRING_SIZE};
+use places::{Places, Run};
+use store::Layers;
 
-const MAX_POOL: usize = 1048575;
-
-const MAX_LIST: usize = 262143;
-
-const MAX_LAYERS: usize = 32;
+const MAX_TEXT: u32 = numbers::MAX_TEXT as u32;
 
 // Number 3. By `few_within` it is `within_limits` of the tape's book.
 #[tactic(auto, unfolding(crate::specs::Limits::few_enough))]
-pub fn within_limits(p: places::Places) -> bool
+pub fn within_limits(p: Places) -> bool
     ensures { result ≡ few_enough p }
 {
-    (p.text <= MAX_TEXT)
-        & (p.normalized <= MAX_TEXT)
+    (p.text.0 <= MAX_TEXT)
+        & (p.normalized.0 <= MAX_TEXT)
         & (p.strings <= MAX_POOL)
         & (p.contents <= MAX_POOL)
         & (p.segments <= MAX_POOL)
@@ -50,7 +50,7 @@ fn part_utf8(bytes: &[u8], at: usize, len: usize) -> bool
 
 // Number 2, one layer: its string records stand at `at`, the bytes of its strings at `from`, from where on all is UTF-8. Where each
 // string is UTF-8 by itself, the place behind them: the strings are walked once for both.
-fn strings_end(tape: &[u8], strings: places::Run, bytes: &[u8], from: usize) -> Option<usize>
+fn strings_end(tape: &[u8], strings: Run, bytes: &[u8], from: usize) -> Option<usize>
     requires count_in_bounds { strings.at + 5 * strings.count ≤ length tape.now }
     requires count_in_bounds_2 { from + sum (records_at string_codec tape.now strings.at strings.count) ≤ length bytes.now }
     requires bytes_value { utf8 (drop from bytes.now) ≡ true }
@@ -58,7 +58,7 @@ fn strings_end(tape: &[u8], strings: places::Run, bytes: &[u8], from: usize) -> 
 {
     let mut place = from;
     for i in 0..strings.count {
-        let n = wire::u32_at(tape, strings.at + 5 * i + 1) as usize;
+        let n = wire::u32_at(tape, strings.at + STRING_SIZE * i + 1) as usize;
         if !part_utf8(bytes, place, n) {
             return None;
         }
@@ -67,16 +67,16 @@ fn strings_end(tape: &[u8], strings: places::Run, bytes: &[u8], from: usize) -> 
     Some(place)
 }
 
-// Number 2, all layers: the first stands at 9, the bytes of their strings at `from`, from where on all is UTF-8.
-fn layers_utf8(tape: &[u8], bytes: &[u8], layers: usize, from: usize) -> bool
-    requires { LayersFit tape.now bytes.now layers from × (utf8 (drop from bytes.now) ≡ true) }
-    ensures { result ≡ all layer_utf8 (layers_at tape.now (places_in tape.now).layers (drop from bytes.now)) }
+// Number 2, all layers: the bytes of their strings stand at `from`, from where on all is UTF-8.
+fn layers_utf8(layers: &Layers, bytes: &[u8], from: usize) -> bool
+    requires { (from + string_bytes layers.now.tape.now (places_in layers.now.tape.now).layers ≤ length bytes.now) × (utf8 (drop from bytes.now) ≡ true) }
+    ensures { result ≡ all layer_utf8 (layers_at layers.now.tape.now (places_in layers.now.tape.now).layers (drop from bytes.now)) }
 {
-    let mut at = 9;
+    let mut at = HEAD_SIZE;
     let mut place = from;
-    for _layer in 0..layers {
-        let l = places::next_layer(tape, at);
-        let Some(end) = strings_end(tape, l.strings, bytes, place) else {
+    for k in 0..layers.count {
+        let l = layers.runs(k, at);
+        let Some(end) = strings_end(layers.tape, l.strings, bytes, place) else {
             return false;
         };
         place = end;
@@ -86,12 +86,12 @@ fn layers_utf8(tape: &[u8], bytes: &[u8], layers: usize, from: usize) -> bool
 }
 
 // Number 2. The text, the normalized text, and each string by itself.
-pub fn texts_utf8(tape: &[u8], bytes: &[u8], p: places::Places) -> bool
-    requires { (p ≡ found tape.now) × (holds tape.now bytes.now ≡ true) }
-    ensures { result ≡ texts_are_utf8 (book_at tape.now (places_in tape.now) bytes.now) }
+pub fn texts_utf8(layers: &Layers, bytes: &[u8], p: Places) -> bool
+    requires { (p ≡ found layers.now.tape.now) × Frame layers.now.tape.now bytes.now }
+    ensures { result ≡ texts_are_utf8 (book_at layers.now.tape.now (places_in layers.now.tape.now) bytes.now) }
 {
-    let text = p.text as usize;
-    let normalized = p.normalized as usize;
+    let text = p.text.0 as usize;
+    let normalized = p.normalized.0 as usize;
     if !utf8::is_utf8(bytes) {
         return false;
     }
@@ -101,5 +101,5 @@ pub fn texts_utf8(tape: &[u8], bytes: &[u8], p: places::Places) -> bool
     if !part_utf8(bytes, text, normalized) {
         return false;
     }
-    layers_utf8(tape, bytes, p.layers, text + normalized)
+    layers_utf8(layers, bytes, text + normalized)
 }

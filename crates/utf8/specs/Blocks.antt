@@ -11,7 +11,8 @@ use borrow.Author.Tests.{leb-true, leb-false, le-leb, lt-leb, eqb-false}
 use Rattle.std.proofs.Math.ListN.{get_or}
 use Rattle.std.proofs.Math.Dec.{leb, eqb}
 use Rattle.model.specs.Utf8.{Utf8State, tail2, within, utf8_first, utf8_step}
-use Rattle.wire.specs.Loops.{any_up_to, any_found, by_bool}
+use Rattle.facts.specs.Truth.{neither, by_bool}
+use Rattle.wire.specs.Loops.{any_up_to, any_at}
 use Rattle.chars.specs.Chars.{asks, two_whole, three_whole}
 use Rattle.chars.specs.Leads.{lead_2, lead_3}
 use Rattle.utf8.specs.Skips.{Skipped, skipped_none, skipped_more, skip_1, skip_char}
@@ -40,14 +41,7 @@ module _ (P : ℕ → Bool) where
   unfolding any_up_to
   any_more i e f = rw (e, f, add-one) refl
 
-  any_at : (n i : ℕ) → any_up_to n P ≡ false → i < n → P i ≡ false
-  any_at n i f h = by_bool (P i) (λ t. absurd (true≢false (sym (any_found P n i h t) ∙ f))) (λ e. e)
-
 -- ---- what a byte that is not odd says
-
-neither : (a b : Bool) → (a || b) ≡ false → (a ≡ false) × (b ≡ false)
-neither true b e = absurd (true≢false e)
-neither false b e = (refl, e)
 
 same : (a b : Bool) → not (beq a b) ≡ false → a ≡ b
 same true true e = refl

@@ -4,7 +4,7 @@ use Rattle.std.proofs.lemmas.Option.{MatchOption-at_some}
 use Rattle.std.proofs.Common.{sym, ap, ◌∙◌, arith, add-zero, ltb-true, leb-true}
 use Rattle.std.proofs.Math.Bool.{and_assoc, and-true}
 use Rattle.model.specs.Utf8.{Utf8State, tail2, within, utf8_first, utf8_step, utf8}
-use Rattle.laws.specs.Lists.{both}
+use Rattle.facts.specs.Truth.{both}
 use Rattle.wire.specs.Loops.{all_up_to}
 use Rattle.chars.specs.Chars.{char_len, length_if, asks, len_1, three_whole, char_next, char_none, char_fits}
 use Rattle.chars.specs.Leads.{lead_1, lead_3}

@@ -1,7 +1,7 @@
 -- A chain over the numbers below n, `(0..n).all(..)` or `(0..n).any(..)`: its answer in the words of specs/Loops.antt, given what the closure answers of
 -- each number. A caller's answer is one line, as
 --     returns c = range_all _ _ _ _ P refl (λ x b q k. search (rules, tests)) _ c.all.ensures.ran
-use Rattle.std.proofs.Common.{◌≡◌, ℕ, ◌+◌, ◌-◌, ◌≤◌, ◌<◌, List, length, get_or, Bool, true, false, Option, refl, sym, ap, ◌∙◌, arith}
+use Rattle.std.proofs.Common.{◌≡◌, ℕ, ◌<◌, List, length, get_or, Bool, true, false, Option, sym, ap, ◌∙◌, arith}
 use Rattle.std.specs.Prelude.{MatchOption}
 use denote.Param.Members.{Mut}
 use Rattle.std.specs.declared.ops.Range.{Range}
@@ -12,7 +12,7 @@ use Rattle.std.specs.Bool.{MatchBool}
 use Rattle.std.proofs.iter.Yields.{nat_range_steps}
 use Rattle.std.proofs.lemmas.Iterator.{cases_from_all, cases_from_any, YieldsList-from_range}
 use Rattle.std.proofs.lemmas.List.FromFn.{length-range_with_len, get_or-range_with_len}
-use Rattle.wire.specs.Loops.{all_up_to, any_up_to, Passed, all_passed, all_failed, Missed, any_missed, any_found}
+use Rattle.wire.specs.Loops.{all_up_to, any_up_to, all_passed, all_failed, any_missed, any_found}
 
 module _ {F : Type 0} {g : Mut F (ℕ × Unit {0}) Bool} (s u : Range ℕ) (f : F) (n : ℕ) (P : ℕ → Bool) (is : s ≡ record { start = 0; end = n })
     (gives : (x : ℕ) (b : Bool) (q : F) → Called g f (x, tt) b q → (q ≡ f) × (b ≡ P x)) where

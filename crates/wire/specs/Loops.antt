@@ -4,7 +4,7 @@ use Prim.Native.Nat.{ℕ, zero, suc, ◌+◌, ◌*◌, ◌≤◌, ◌<◌}
 use Rattle.std.specs.Prelude.{◌≡◌, Bool, ◌&&◌, ◌||◌, cond, length, get_or}
 use Rattle.std.proofs.Math.Path.{refl, sym, ap}
 use Rattle.std.proofs.Common.{◌∙◌, true≢false, le_of_suc-le-suc, eq-or-lt_of_le, mul-add, mul-one, below_more, length-append}
-use Rattle.std.proofs.Math.Bool.{true, false, or-true, or-false, or_assoc, and-false, and-true, and_assoc}
+use Rattle.std.proofs.Math.Bool.{true, false, or-true, or-false, and-false, and-true}
 use mathlib.Core.List.{List, [], ◌∷◌, ◌++◌}
 use Rattle.std.proofs.Math.Option.{Option, none, some}
 use Rattle.std.proofs.Math.Logic.{⊎_elim}
@@ -13,6 +13,9 @@ use Rattle.std.proofs.Math.Numerals.{add-one}
 use Rattle.std.proofs.Math.ListN.{get_or-append}
 use Rattle.std.proofs.Math.Seq.{get_or_at}
 use Rattle.model.specs.Lists.{all, any, tabulate, sum}
+use Rattle.facts.specs.Truth.{by_bool}
+use Rattle.facts.specs.Lists.{sum_append, tabulate_last}
+use Rattle.facts.specs.Keep.{all_append_is, any_append_is}
 use Rattle.wire.specs.Overwrite.{overwrite, Wrote, wrote_none, wrote_next}
 
 -- P holds at each index below n
@@ -49,11 +52,6 @@ list_to (suc n) f = list_to n f ++ (f n ∷ [])
 unfoldable pub concat_up_to : ℕ → (ℕ → List ℕ) → List ℕ
 concat_up_to zero f = []
 concat_up_to (suc n) f = concat_up_to n f ++ f n
-
--- a Bool is true or false, and what is shown in both cases holds
-pub by_bool : {X : Type 0} (b : Bool) → (b ≡ true → X) → (b ≡ false → X) → X
-by_bool true t f = t refl
-by_bool false t f = f refl
 
 -- ---- a test of every index
 
@@ -117,6 +115,16 @@ module _ (P : ℕ → Bool) where
       (λ (e : i ≡ n). rw (← e, f, or-true) refl)
       (λ (l : i < n). rw (any_found n i l f) refl)
       (eq-or-lt_of_le (le_of_suc-le-suc h))
+
+  -- what the whole search says of one index
+  pub any_at : (n i : ℕ) → any_up_to n P ≡ false → i < n → P i ≡ false
+  any_at n i f h = by_bool (P i) (λ t. absurd (true≢false (sym (any_found n i h t) ∙ f))) (λ e. e)
+
+-- tests that agree at every index
+pub all_up_to_same : (n : ℕ) (P Q : ℕ → Bool) → ((i : ℕ) → i < n → P i ≡ Q i) → all_up_to n P ≡ all_up_to n Q
+unfolding all_up_to
+all_up_to_same zero P Q e = refl
+all_up_to_same (suc n) P Q e = rw (all_up_to_same n P Q (λ i h. e i (omega arith)), e n (omega arith)) refl
 
 -- ---- a run that stops at the first index that fails
 
@@ -236,24 +244,12 @@ joined_more {z} {d} {at} {f} {i} {next} {l} j next' l' h r e q =
 -- ---- what they are in the model's terms
 
 module _ {A : Type 0} where
-  pub tabulate_last : (n : ℕ) (f : ℕ → A) → tabulate (suc n) f ≡ tabulate n f ++ (f n ∷ [])
-  tabulate_last zero f = refl
-  tabulate_last (suc n) f = ap (λ (l : List A). f 0 ∷ l) (tabulate_last n (λ (i : ℕ). f (suc i)))
-
-  all_append : (p : A → Bool) (xs ys : List A) → all p (xs ++ ys) ≡ (all p xs && all p ys)
-  all_append p [] ys = refl
-  all_append p (x ∷ xs) ys = rw (all_append p xs ys) (sym (and_assoc (p x) (all p xs) (all p ys)))
-
-  any_append : (p : A → Bool) (xs ys : List A) → any p (xs ++ ys) ≡ (any p xs || any p ys)
-  any_append p [] ys = refl
-  any_append p (x ∷ xs) ys = rw (any_append p xs ys) (sym (or_assoc (p x) (any p xs) (any p ys)))
-
   pub all_tabulate : (p : A → Bool) (n : ℕ) (f : ℕ → A) → all_up_to n (λ (i : ℕ). p (f i)) ≡ all p (tabulate n f)
   unfolding all_up_to
   all_tabulate p zero f = refl
   all_tabulate p (suc n) f =
       let whole : all p (tabulate (suc n) f) ≡ (all p (tabulate n f) && (p (f n) && true))
-      = ap (all p) (tabulate_last n f) ∙ all_append p (tabulate n f) (f n ∷ []) in
+      = ap (all p) (tabulate_last n f) ∙ all_append_is p (tabulate n f) (f n ∷ []) in
       rw (all_tabulate p n f) (sym (whole ∙ rw and-true refl))
 
   pub any_tabulate : (p : A → Bool) (n : ℕ) (f : ℕ → A) → any_up_to n (λ (i : ℕ). p (f i)) ≡ any p (tabulate n f)
@@ -261,12 +257,8 @@ module _ {A : Type 0} where
   any_tabulate p zero f = refl
   any_tabulate p (suc n) f =
       let whole : any p (tabulate (suc n) f) ≡ (any p (tabulate n f) || (p (f n) || false))
-      = ap (any p) (tabulate_last n f) ∙ any_append p (tabulate n f) (f n ∷ []) in
+      = ap (any p) (tabulate_last n f) ∙ any_append_is p (tabulate n f) (f n ∷ []) in
       rw (any_tabulate p n f) (sym (whole ∙ rw or-false refl))
-
-pub sum_append : (xs ys : List ℕ) → sum (xs ++ ys) ≡ sum xs + sum ys
-sum_append [] ys = omega arith
-sum_append (x ∷ xs) ys = rw (sum_append xs ys) (omega arith)
 
 pub sum_tabulate : (n : ℕ) (f : ℕ → ℕ) → sum_to n f ≡ sum (tabulate n f)
 unfolding sum_to

@@ -1,5 +1,5 @@
 -- A write into a buffer, and its laws. A caller's proof cites these and never unfolds `overwrite`.
-use Rattle.std.specs.Prelude.{ℕ, suc, ◌+◌, ◌-◌, ◌≤◌, ◌<◌, zero, ◌≡◌, take, set, replicate}
+use Rattle.std.specs.Prelude.{ℕ, suc, ◌+◌, ◌-◌, ◌≤◌, ◌<◌, zero, ◌≡◌, take, set}
 use Rattle.std.proofs.Math.Path.{refl, sym, ap}
 use Rattle.std.proofs.Common.{◌∙◌, add-one, zero-add, add-zero, add_assoc, length-drop, take-append-drop, take-suc}
 use mathlib.Core.List.{List, [], ◌∷◌, ◌++◌, append_assoc, append-nil}
@@ -10,6 +10,7 @@ use Rattle.std.proofs.lemmas.List.{length-replicate, replicate-append-replicate}
 use Rattle.std.proofs.lemmas.List.Edits.{sets-eq}
 use Rattle.std.proofs.Math.Seq.{length-take-le, take_at, drop_at, drop-drop, drop-append-add, get_or-append-add, get_or-take, get_or-drop, drop-length}
 use Rattle.model.specs.Bytes.{zeros}
+use Rattle.facts.specs.Lists.{head_length}
 
 -- `d` with the elements `bs` in place of as many from index `at`
 unfoldable pub overwrite : List ℕ → ℕ → List ℕ → List ℕ
@@ -20,27 +21,27 @@ abbrev pub padded : ℕ → List ℕ → List ℕ
 padded n bs = bs ++ zeros (n - length bs)
 
 module _ (d : List ℕ) (at : ℕ) (bs : List ℕ) (fits : at + length bs ≤ length d) where
-  head_length : length (take at d ++ bs) ≡ at + length bs
-  head_length = let h : at ≤ length d = omega arith in simp (length-append, length-take-le)
+  head : length (take at d ++ bs) ≡ at + length bs
+  head = head_length d at bs (omega (arith, fits))
 
   pub length_overwrite : length (overwrite d at bs) ≡ length d
   unfolding overwrite
-  length_overwrite = rw (length-append, head_length, length-drop) (omega arith)
+  length_overwrite = rw (length-append, head, length-drop) (omega arith)
 
   pub take_overwrite : take (at + length bs) (overwrite d at bs) ≡ take at d ++ bs
   unfolding overwrite
-  take_overwrite = take_at (take at d ++ bs) (drop (at + length bs) d) (at + length bs) head_length
+  take_overwrite = take_at (take at d ++ bs) (drop (at + length bs) d) (at + length bs) head
 
   pub drop_overwrite : drop (at + length bs) (overwrite d at bs) ≡ drop (at + length bs) d
   unfolding overwrite
-  drop_overwrite = drop_at (take at d ++ bs) (drop (at + length bs) d) (at + length bs) head_length
+  drop_overwrite = drop_at (take at d ++ bs) (drop (at + length bs) d) (at + length bs) head
 
   -- a second write right behind the first, at the index `n` that the code has: one write of both
   pub overwrite_next : (n : ℕ) (cs : List ℕ) → n ≡ at + length bs → n + length cs ≤ length d
       → overwrite (overwrite d at bs) n cs ≡ overwrite d at (bs ++ cs)
   unfolding overwrite
   overwrite_next n cs e h =
-      let x : length (take at d ++ bs) ≡ n = head_length ∙ sym e in
+      let x : length (take at d ++ bs) ≡ n = head ∙ sym e in
       let rest : drop (n + length cs) (take at d ++ bs ++ drop (at + length bs) d) ≡ drop (at + length (bs ++ cs)) d
       = rw (← x, drop-append-add, drop-drop, length-append, add_assoc) refl in
       rw (take_at (take at d ++ bs) (drop (at + length bs) d) n x, rest) (simp append_assoc)
@@ -62,7 +63,7 @@ module _ (d : List ℕ) (at : ℕ) (bs : List ℕ) (fits : at + length bs ≤ le
   pub get_d_behind : (i : ℕ) → at + length bs ≤ i → get_or (overwrite d at bs) i 0 ≡ get_or d i 0
   unfolding overwrite
   get_d_behind i h =
-      let e : i ≡ length (take at d ++ bs) + (i - (at + length bs)) = omega (arith, head_length) in
+      let e : i ≡ length (take at d ++ bs) + (i - (at + length bs)) = omega (arith, head) in
       let b : at + length bs + (i - (at + length bs)) ≡ i = omega arith in
       ap (λ (k : ℕ). get_or (take at d ++ bs ++ drop (at + length bs) d) k 0) e
       ∙ get_or-append-add (take at d ++ bs) (drop (at + length bs) d) (i - (at + length bs)) 0

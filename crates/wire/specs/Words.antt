@@ -1,17 +1,13 @@
 -- Laws of `word_at` and `word_bytes`.
-use Rattle.std.specs.Prelude.{ℕ, ◌+◌, ◌*◌, ◌/◌, ◌%◌, ◌≤◌, ◌<◌, ◌^◌, ◌≡◌, List, ◌++◌, length, drop, ltb}
+use Rattle.std.specs.Prelude.{ℕ, ◌+◌, ◌%◌, ◌≤◌, ◌<◌, ◌^◌, ◌≡◌, List, ◌++◌, length, drop}
 use Rattle.std.proofs.Math.Path.{refl}
-use Rattle.std.proofs.Common.{sym, ap, ◌∙◌, arith, add-zero, get_or-drop, ltb-true, ltb-false}
+use Rattle.std.proofs.Common.{sym, ap, ◌∙◌, arith, add-zero, get_or-drop}
 use Rattle.std.proofs.Math.Nat.{add_assoc}
 use Rattle.std.proofs.Math.ListN.{get_or-eq_default, get_or-append}
 use Rattle.std.proofs.Math.Seq.{get_or-append-add}
-use Rattle.model.specs.Bytes.{AreBytes, byte_at, word_at, word_bytes}
+use Rattle.model.specs.Bytes.{byte_at, word_at, word_bytes}
+use Rattle.facts.specs.Words.{word_digits}
 use Rattle.wire.specs.Overwrite.{overwrite, get_d_overwrite, get_d_before, get_d_behind}
-use Rattle.wire.specs.Loops.{by_bool}
-
-pub length_word_bytes : (v : ℕ) → length (word_bytes v) ≡ 4
-unfolding word_bytes
-length_word_bytes v = refl
 
 -- past the end there are bytes 0
 pub word_at_past : (s : List ℕ) (at : ℕ) → length s ≤ at → word_at s at ≡ 0
@@ -24,14 +20,6 @@ word_at_past s at h =
       get_or-eq_default s 0 {n = at + 3} (omega arith),
     )
     refl
-
--- the four digits of a number below 2 ^ 32
-word_digits : (v : ℕ) → v < 2 ^ 32 → v % 256 + 256 * (v / 256 % 256) + 65536 * (v / 65536 % 256) + 16777216 * (v / 16777216 % 256) ≡ v
-word_digits v b =
-    let h : v / 16777216 % 256 ≡ v / 16777216 = omega arith in
-    let g : v / 65536 ≡ 256 * (v / 16777216) + v / 65536 % 256 = omega arith in
-    let f : v / 256 ≡ 256 * (v / 65536) + v / 256 % 256 = omega arith in
-    omega (arith, h, g, f)
 
 -- a word that was written is read again
 pub word_at_overwrite : (d : List ℕ) (at v : ℕ) → at + 4 ≤ length d → v < 2 ^ 32 → word_at (overwrite d at (word_bytes v)) at ≡ v
@@ -124,13 +112,3 @@ word_at_drop s n p =
 pub word_at_word_bytes : (v : ℕ) (rest : List ℕ) → v < 2 ^ 32 → word_at (word_bytes v ++ rest) 0 ≡ v
 unfolding word_at word_bytes
 word_at_word_bytes v rest b = word_digits v b
-
--- ---- bytes
-
-pub byte_lt : {s : List ℕ} → AreBytes s → (i : ℕ) → byte_at s i < 256
-byte_lt {s} a i =
-    by_bool (ltb i (length s)) (λ t. a.byte i (ltb-true _ _ t)) (λ f. rw (get_or-eq_default s 0 {n = i} (ltb-false _ _ f)) (omega arith))
-
-pub word_at_lt : {s : List ℕ} → AreBytes s → (at : ℕ) → word_at s at < 2 ^ 32
-unfolding word_at
-word_at_lt {s} a at = omega (arith, byte_lt a at, byte_lt a (at + 1), byte_lt a (at + 2), byte_lt a (at + 3))

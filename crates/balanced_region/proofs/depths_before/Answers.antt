@@ -1,4 +1,5 @@
 use native.Mathlib.Omega.{arith}
+use Rattle.span.specs.Order.{at_most, above}
 use Rattle.balanced_region.specs.Unmatched.{passing_none, passing_stop, passing_more, passing_done, past_count}
 use Rattle.balanced_region.proofs.depths_before.Goals as goal
 
@@ -6,9 +7,9 @@ pub loop-d-init : goal.loop-d-init
 loop-d-init c =
     passing_none _ _ _
 
-pub returns-then-bound-node_start : goal.returns-then-bound-node_start
-returns-then-bound-node_start c =
-    passing_stop c.loop-d.invariant c.loop-d-test.true _ c.node_start.ensures c.if-bound-node_start.true
+pub returns-then-le : goal.returns-then-le
+returns-then-le c =
+    passing_stop c.loop-d.invariant c.loop-d-test.true _ c.node_start.ensures (at_most _ _ c.le.ensures c.if-le.true)
 
 pub loop-d-smaller : goal.loop-d-smaller
 loop-d-smaller c =
@@ -16,7 +17,7 @@ loop-d-smaller c =
 
 pub loop-d-preserved : goal.loop-d-preserved
 loop-d-preserved c =
-    passing_more c.loop-d.invariant c.loop-d-test.true _ c.node_start.ensures c.if-bound-node_start.false _ c.past-d.ensures
+    passing_more c.loop-d.invariant c.loop-d-test.true _ c.node_start.ensures (above _ _ c.le.ensures c.if-le.false) _ c.past-d.ensures
 
 pub returns : goal.returns
 returns c =

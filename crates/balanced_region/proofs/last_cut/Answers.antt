@@ -1,4 +1,5 @@
 use Rattle.std.proofs.Common.{rules}
+use Rattle.span.specs.Order.{at_most, above}
 use Rattle.balanced_region.specs.Walks.{down_none, down_positive, down_found, down_more, down_done}
 use mathlib.Core.Path.{refl, ◌∙◌}
 use native.Mathlib.Omega.{arith}
@@ -19,15 +20,15 @@ gap_last-c-requires c =
       window = c.loop-d.invariant.1;
     }
 
-pub shape_of-words-then-lo-c : goal.shape_of-words-then-lo-c
-shape_of-words-then-lo-c c =
+pub shape_of-words-then-le : goal.shape_of-words-then-le
+shape_of-words-then-le c =
     c.gap_last-c.auto.words ∙ c.loop-d.invariant.2
 
-pub returns-then-lo-c : goal.returns-then-lo-c
-returns-then-lo-c c =
+pub returns-then-le : goal.returns-then-le
+returns-then-le c =
     record {
       value = down_found c.args.source.now.nodes_apart c.requires.front c.loop-d.invariant.0 _ c.gap_from-lo.ensures _ (search rules) _ c.gap_last-c.ensures.value
-          c.if-lo-c.true;
+          (at_most _ _ c.le.ensures c.if-le.true);
       window_2 = c.gap_last-c.ensures.window_2;
     }
 
@@ -38,7 +39,7 @@ before-depths-requires c =
 pub loop-d-preserved : goal.loop-d-preserved
 loop-d-preserved c = (
   down_more c.args.source.now.nodes_apart c.requires.front c.loop-d.invariant.0 _ c.gap_from-lo.ensures _ (search rules) _ c.gap_last-c.ensures.value
-      c.if-lo-c.false _ refl c.if-i-d.false _ c.node_start.ensures _ (search rules) _ _ c.before-depths.ensures.block_depth
+      (above _ _ c.le.ensures c.if-le.false) _ refl c.if-i-d.false _ c.node_start.ensures _ (search rules) _ _ c.before-depths.ensures.block_depth
       c.before-depths.ensures.warichu_depth,
   c.gap_last-c.ensures.window_2,
   c.gap_last-c.auto.words ∙ c.loop-d.invariant.2,
@@ -52,6 +53,6 @@ pub returns-then-i-d : goal.returns-then-i-d
 returns-then-i-d c =
     record {
       value = down_done c.args.source.now.nodes_apart c.requires.front c.loop-d.invariant.0 _ c.gap_from-lo.ensures _ (search rules) _ c.gap_last-c.ensures.value
-          c.if-i-d.true c.if-lo-c.false;
+          c.if-i-d.true (above _ _ c.le.ensures c.if-le.false);
       window_2 = c.gap_last-c.ensures.window_2;
     }

@@ -1,7 +1,7 @@
-use Rattle.std.proofs.Common.{rules}
+use Rattle.std.proofs.Common.{rules, min}
 use Rattle.balanced_region.specs.Walks.{start_front, start_falls, start_walk_found, start_walk_first, start_walk_rest}
 use Rattle.balanced_region.specs.StartSearch.{start_end}
-use mathlib.Core.Path.{refl, sym, ◌∙◌}
+use mathlib.Core.Path.{◌≡◌, refl, sym, ◌∙◌}
 use native.Mathlib.Omega.{arith}
 use Rattle.balanced_region.proofs.region_start.Goals as goal
 
@@ -50,8 +50,9 @@ node_start-start-requires c =
 
 pub last_cut_before-requires : goal.last_cut_before-requires
 last_cut_before-requires c =
+    let least : c.min.result.0 ≡ min c.args.o.0 c.node_start-start.result.0 = search rules in
     record {
-      inside = omega (arith, c.requires.inside);
+      inside = omega (arith, c.requires.inside, least);
       window = c.last_cut-c.ensures.window_2;
     }
 

@@ -9,5 +9,5 @@ use Rattle.bounds.proofs.containers_placed.Goals as goal
 pub returns : goal.returns
 unfolding container_codec record_at operands_at diagnostics_allow_incremental
 returns c =
-    range_all _ _ _ _ (λ (i : ℕ). (container_ok c.args.size) (record_at container_codec c.args.tape.now (c.args.containers.at + 13 * i))) refl (λ x b q k. search rules) _ c.all.ensures.ran
-    ∙ run_all container_codec (container_ok c.args.size) c.args.tape.now c.args.containers.at c.args.containers.count 13 refl
+    range_all _ _ _ _ (λ (i : ℕ). (container_ok c.args.normalized.0) (record_at container_codec c.args.tape.now (c.args.containers.at + 13 * i))) refl (λ x b q k. search rules) _ c.all.ensures.ran
+    ∙ run_all container_codec (container_ok c.args.normalized.0) c.args.tape.now c.args.containers.at c.args.containers.count 13 refl

@@ -3,7 +3,7 @@ use Rattle.model.specs.Tape.{record_at, operands_at, diagnostic_codec}
 use Rattle.model.specs.Lookup.{diagnostics_allow_incremental}
 use Rattle.wire.proofs.Ranges.{range_all}
 use Rattle.records.specs.Runs.{run_all}
-use Rattle.bounds.specs.Spans.{allows_incremental}
+use Rattle.bounds.specs.Incremental.{allows_incremental}
 use Rattle.bounds.proofs.diagnostics_allow_incremental.Goals as goal
 
 pub returns : goal.returns

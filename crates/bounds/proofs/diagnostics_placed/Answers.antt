@@ -9,5 +9,5 @@ use Rattle.bounds.proofs.diagnostics_placed.Goals as goal
 pub returns : goal.returns
 unfolding diagnostic_codec record_at operands_at diagnostics_allow_incremental
 returns c =
-    range_all _ _ _ _ (λ (i : ℕ). (diagnostic_ok c.args.size) (record_at diagnostic_codec c.args.tape.now (c.args.diagnostics.at + 18 * i))) refl (λ x b q k. search rules) _ c.all.ensures.ran
-    ∙ run_all diagnostic_codec (diagnostic_ok c.args.size) c.args.tape.now c.args.diagnostics.at c.args.diagnostics.count 18 refl
+    range_all _ _ _ _ (λ (i : ℕ). (diagnostic_ok c.args.text.0) (record_at diagnostic_codec c.args.tape.now (c.args.diagnostics.at + 18 * i))) refl (λ x b q k. search rules) _ c.all.ensures.ran
+    ∙ run_all diagnostic_codec (diagnostic_ok c.args.text.0) c.args.tape.now c.args.diagnostics.at c.args.diagnostics.count 18 refl

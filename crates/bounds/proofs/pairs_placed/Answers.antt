@@ -9,5 +9,5 @@ use Rattle.bounds.proofs.pairs_placed.Goals as goal
 pub returns : goal.returns
 unfolding pair_codec record_at operands_at diagnostics_allow_incremental
 returns c =
-    range_all _ _ _ _ (λ (i : ℕ). (pair_ok c.args.size) (record_at pair_codec c.args.tape.now (c.args.pairs.at + 18 * i))) refl (λ x b q k. search rules) _ c.all.ensures.ran
-    ∙ run_all pair_codec (pair_ok c.args.size) c.args.tape.now c.args.pairs.at c.args.pairs.count 18 refl
+    range_all _ _ _ _ (λ (i : ℕ). (pair_ok c.args.text.0) (record_at pair_codec c.args.tape.now (c.args.pairs.at + 18 * i))) refl (λ x b q k. search rules) _ c.all.ensures.ran
+    ∙ run_all pair_codec (pair_ok c.args.text.0) c.args.tape.now c.args.pairs.at c.args.pairs.count 18 refl

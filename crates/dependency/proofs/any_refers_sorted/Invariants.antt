@@ -9,4 +9,4 @@ abbrev pub invariant-loop-i : goal.invariant-loop-i
 invariant-loop-i l = (length l.row ≡ length l.initial.row)
     × (l.m ≤ l.i)
     × Rowed l.nodes.strings (first_nodes l.nodes (min l.n l.i)) l.row l.m
-    × Left (refers_first l.nodes l.from l.n) l.nodes.run.count l.i
+    × Left (refers_first l.nodes l.from.0 l.n) l.nodes.run.count l.i

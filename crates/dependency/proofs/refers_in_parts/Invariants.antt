@@ -6,5 +6,5 @@ use Rattle.dependency.proofs.refers_in_parts.Given as goal
 
 abbrev pub invariant-loop-i : goal.invariant-loop-i
 invariant-loop-i l = (length l.words ≡ length l.initial.words)
-    × ((k : ℕ) → k ≡ min l.i l.nodes.run.count → Missed (refers_first l.nodes l.from k) l.nodes.run.count)
+    × ((k : ℕ) → k ≡ min l.i l.nodes.run.count → Missed (refers_first l.nodes l.from.0 k) l.nodes.run.count)
     × (l.size ≤ length l.initial.words)

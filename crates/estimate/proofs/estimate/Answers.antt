@@ -4,5 +4,5 @@ use Rattle.estimate.proofs.estimate.Goals as goal
 
 pub returns : goal.returns
 returns c =
-    let at-estimate-checked = c in
-    (at-estimate-checked.estimate_checked-r.ensures, c.zero_words.ensures ∙ ap zeros at-estimate-checked.estimate_checked-r.auto.work)
+    let at-estimate = c in
+    (at-estimate.estimate_stored-r.ensures, c.zero_words.ensures ∙ ap zeros at-estimate.estimate_stored-r.auto.work)

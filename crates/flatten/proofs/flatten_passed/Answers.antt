@@ -1,6 +1,6 @@
 use Rattle.std.proofs.Common.{◌≡◌, ◌∙◌, None, sym, ap, arith}
 use Rattle.refusal.specs.Refusal.{number, number_in, handed_on}
-use Rattle.region.specs.Held.{held_texts_inside}
+use Rattle.tape.specs.Held.{held_texts_inside}
 use Rattle.flatten.specs.Flat.{nodes_end, inside}
 use Rattle.flatten.specs.Stages.{room_for, no_room, no_graft, lists_inside, no_lists, flat_written}
 use Rattle.flatten.proofs.flatten_passed.Goals as goal

@@ -97,10 +97,15 @@ graft_field-graft_string-requires t c =
       );
     }
 
-pub graft_field-returns-in_default : goal.graft_field-returns-in_default
-graft_field-returns-in_default t c =
+pub graft_field-returns-in_err-graft_string-in_default : goal.graft_field-returns-in_err-graft_string-in_default
+graft_field-returns-in_err-graft_string-in_default t c =
+    rw c.from_residual.ensures (field_string _ _ (λ e. c.in_default.not-Contents (number_same _ _ e)) (λ e. c.in_default.not-Segments (number_same _ _ e))
+    (c.in_err-graft_string-in_default.ensures c.args.out.now))
+
+pub graft_field-returns-in_ok-graft_string-in_default : goal.graft_field-returns-in_ok-graft_string-in_default
+graft_field-returns-in_ok-graft_string-in_default t c =
     field_string _ _ (λ e. c.in_default.not-Contents (number_same _ _ e)) (λ e. c.in_default.not-Segments (number_same _ _ e))
-    (c.graft_string.ensures c.args.out.now)
+    (c.in_ok-graft_string-in_default.ensures c.args.out.now)
 
 pub graft_content_run-overflow_add-result : goal.graft_content_run-overflow_add-result
 graft_content_run-overflow_add-result t c =

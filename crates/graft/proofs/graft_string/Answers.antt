@@ -1,4 +1,5 @@
-use Rattle.std.proofs.Common.{ap}
+use Rattle.std.proofs.Common.{ap, sym, ◌∙◌, eqb-true}
+use borrow.Author.Tests.{eqb-false}
 use Rattle.records.specs.Uses.{use_number}
 use Rattle.records.specs.UseNumbers.{number_same}
 use Rattle.records.specs.declared.Use.TheVariants.{Str, OptStr}
@@ -18,21 +19,21 @@ pub returns-in-Str : goal.returns-in-Str
 returns-in-Str c =
     λ out. id_string _ _ (ap use_number c.in-Str.is) (c.graft_str.ensures out)
 
-pub returns-then-id-eq-NO_STRING : goal.returns-then-id-eq-NO_STRING
-returns-then-id-eq-NO_STRING c =
-    λ out. id_missing _ _ (told_nothing c.requires.good.0 c.requires.good.1 c.requires.has_room out) (ap use_number c.in-OptStr.is) c.if-id-eq-NO_STRING.true
+pub returns-then-eq : goal.returns-then-eq
+returns-then-eq c =
+    λ out. id_missing _ _ (told_nothing c.requires.good.0 c.requires.good.1 c.requires.has_room out) (ap use_number c.in-OptStr.is) (eqb-true _ _ (sym c.eq.ensures ∙ c.if-eq.true))
 
-pub graft_str-requires-else-id-eq-NO_STRING : goal.graft_str-requires-else-id-eq-NO_STRING
-graft_str-requires-else-id-eq-NO_STRING c =
+pub graft_str-requires-else-eq : goal.graft_str-requires-else-eq
+graft_str-requires-else-eq c =
     record {
       indexed = c.requires.indexed;
       good = c.requires.good;
-      id_lt_strings = (optional_known _ _ _ 0 c.requires.id_value.0 (ap use_number c.in-OptStr.is) c.if-id-eq-NO_STRING.false, c.requires.id_value.1, c.requires.id_value.2);
+      id_lt_strings = (optional_known _ _ _ 0 c.requires.id_value.0 (ap use_number c.in-OptStr.is) (eqb-false _ _ (sym c.eq.ensures ∙ c.if-eq.false)), c.requires.id_value.1, c.requires.id_value.2);
     }
 
-pub returns-else-id-eq-NO_STRING : goal.returns-else-id-eq-NO_STRING
-returns-else-id-eq-NO_STRING c =
-    λ out. id_optional _ _ (ap use_number c.in-OptStr.is) c.if-id-eq-NO_STRING.false (c.graft_str-else-id-eq-NO_STRING.ensures out)
+pub returns-else-eq : goal.returns-else-eq
+returns-else-eq c =
+    λ out. id_optional _ _ (ap use_number c.in-OptStr.is) (eqb-false _ _ (sym c.eq.ensures ∙ c.if-eq.false)) (c.graft_str-else-eq.ensures out)
 
 pub returns-in_default : goal.returns-in_default
 returns-in_default c =

@@ -1,6 +1,6 @@
 use Rattle.std.proofs.Common.{arith}
 use Rattle.interner.specs.Lookups.{last_there}
-use Rattle.graft.specs.Strings.{source_tape, index_lent, part_inside, part_shows}
+use Rattle.graft.specs.Strings.{index_lent, part_inside, part_shows}
 use Rattle.graft.proofs.intern_str.Goals as goal
 
 pub intern_last-requires : goal.intern_last-requires
@@ -24,7 +24,7 @@ string_from-from-requires c =
 pub string_length-len-requires : goal.string_length-len-requires
 string_length-len-requires c =
     record {
-      of_tape = source_tape c.args.w.now.source;
+      of_tape = c.args.w.now.source.fit;
       id_lt_strings = c.requires.id_lt_strings.0;
     }
 

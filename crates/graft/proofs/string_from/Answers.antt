@@ -1,13 +1,14 @@
-use Rattle.strings.specs.Starts.{lengths_in}
+use Rattle.strings.specs.Starts.{lengths_in, readable}
 use Rattle.strings.specs.Shown.{span_of_start}
-use Rattle.graft.specs.Strings.{header_inside, from_small_lem, source_readable}
+use Rattle.graft.specs.Strings.{header_inside, from_small_lem}
 use native.Mathlib.Omega.{arith}
 use Rattle.graft.proofs.string_from.Goals as goal
 
 pub string_start-start-requires : goal.string_start-start-requires
 string_start-start-requires c =
+    let source = c.args.w.now.source in
     record {
-      readable = source_readable c.args.w.now.source (omega arith);
+      readable = readable _ _ source.framing _ source.fit.stored source.fit.few (omega arith);
       indexed = c.requires.indexed;
       id_lt_strings = c.requires.id_lt_strings;
     }

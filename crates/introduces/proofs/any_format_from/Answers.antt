@@ -11,7 +11,7 @@ unfolding test_at node_codec
 returns c =
     let t = c.args.tape.now in
     let nodes = c.args.nodes in
-    let from = c.args.from in
+    let from = c.args.from.0 in
     range_any _ _ _ _ (test_at node_codec (format_from from) t nodes.at) refl (λ x b q k. search (rules, tests)) _ c.any.ensures.ran
     ∙ sym (any-records_at node_codec (format_from from) t nodes.at nodes.count)
     ∙ formats_from from (records_at node_codec t nodes.at nodes.count)

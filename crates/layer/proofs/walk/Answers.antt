@@ -1,5 +1,6 @@
 use Rattle.layer.specs.Walked.{begun, walk_ready, walk_low, walk_none, walk_told}
-use Rattle.layer.specs.Source.{source_of, source_inside, source_nodes_lem}
+use Rattle.tape.specs.Held.{held_runs}
+use Rattle.layer.specs.Source.{source_of, source_nodes_lem}
 use Rattle.layer.proofs.walk.Goals as goal
 
 pub index_words-requires : goal.index_words-requires
@@ -15,7 +16,7 @@ graft_nodes-requires c =
     let begin = begun held (c.new.ensures c.args.strs.now h.1) c.index_words.ensures in
     record {
       ready = walk_ready begin c.args.plan c.args.nodes_at c.args.out.now c.requires.walk_room;
-      count_in_bounds = (source_inside held, source_nodes_lem held);
+      count_in_bounds = ((held_runs held).0, source_nodes_lem held);
       count_bound = (walk_low begin c.args.plan c.args.nodes_at c.args.out.now c.requires.walk_room, c.requires.walk_room.records);
     }
 

@@ -1,24 +1,22 @@
 use Rattle.std.proofs.Common.{refl, sym, arith}
-use Rattle.levels.specs.Whole.{no_segments, walked_none, walked_inside, walked_fits, walked_more, walked_all}
+use Rattle.wire.specs.Loops.{passed_none}
+use Rattle.places.specs.Walked.{layer_more, layers_passed}
+use Rattle.store.specs.Stored.{stored_layers}
+use Rattle.store.specs.Standing.{runs_there, runs_inside}
+use Rattle.levels.specs.Whole.{no_segments, run_said}
 use Rattle.levels.proofs.levels_ok.Goals as goal
 
 pub returns-then-st-eq0 : goal.returns-then-st-eq0
 returns-then-st-eq0 c =
     no_segments c.requires.of_tape c.if-st-eq0.true
 
-pub returns-then-layers-eq0 : goal.returns-then-layers-eq0
-returns-then-layers-eq0 c =
-    walked_all (walked_none _ _) c.requires.layers_value (omega (arith, c.if-layers-eq0.true))
-
-pub next_layer-l-requires : goal.next_layer-l-requires
-next_layer-l-requires c =
-    walked_inside (walked_none _ c.args.st) c.requires.layers_value (omega (arith, c.if-layers-eq0.false))
+pub returns-then-st-eq0-2 : goal.returns-then-st-eq0-2
+returns-then-st-eq0-2 c =
+    let n = stored_layers _ c.requires.of_tape.stored in layers_passed _ _ {k = 0} (omega (arith, n, c.if-st-eq0-2.true)) (passed_none _)
 
 pub run_levels_ok-requires : goal.run_levels_ok-requires
 run_levels_ok-requires c =
-    record {
-      count_in_bounds = walked_fits (walked_none _ _) c.requires.layers_value (omega (arith, c.if-layers-eq0.false)) c.next_layer-l.ensures c.requires.of_tape;
-    }
+    record { count_in_bounds = (runs_inside c.requires.of_tape (omega (arith, c.if-st-eq0-2.false)) c.layer_runs.ensures).segments }
 
 pub returns-then-not-run_levels_ok : goal.returns-then-not-run_levels_ok
 returns-then-not-run_levels_ok c =
@@ -26,9 +24,9 @@ returns-then-not-run_levels_ok c =
 
 pub layers_ok-requires : goal.layers_ok-requires
 layers_ok-requires c =
+    let here = runs_there c.requires.of_tape (omega (arith, c.if-st-eq0-2.false)) c.layer_runs.ensures in
     let passed = c.run_levels_ok.ensures.sure c.if-not-run_levels_ok.false in
-    let first = walked_more (walked_none _ _) c.requires.layers_value (omega (arith, c.if-layers-eq0.false)) c.next_layer-l.ensures (sym passed) refl in
-    record { walked = (omega (arith, c.if-layers-eq0.false), first) }
+    record { before = (omega (arith, c.if-st-eq0-2.false), layer_more _ _ 0 here (run_said _ _ _ (sym passed)) refl (passed_none _)) }
 
 pub returns-then-layers_ok : goal.returns-then-layers_ok
 returns-then-layers_ok c =

@@ -1,21 +1,18 @@
-use Rattle.refusal.specs.Refusal.{handed_on, was_refused}
-use Rattle.tape.specs.Accepted.{passed_book}
+use Rattle.refusal.specs.Refusal.{handed_on}
+use Rattle.tape.specs.Held.{held_layers}
+use Rattle.tape.specs.Opened.{book_held}
 use Rattle.lookup.specs.Asked.{ask_refused}
-use Rattle.lookup.specs.Ranges.{asked_store, asked_few, contents_both, contents_said}
+use Rattle.lookup.specs.Ranges.{contents_both, contents_said}
 use Rattle.lookup.proofs.lookup_contents.Goals as goal
 
-pub returns-in_err-p : goal.returns-in_err-p
-returns-in_err-p c =
-    rw (handed_on _ c.from_residual.ensures.1) (contents_both _ _ _ _ (ask_refused _ _ (was_refused _ _ c.in_err-p.ensures) _))
-
-pub store_of-requires : goal.store_of-requires
-store_of-requires c =
-    asked_store (passed_book c.in_ok-p.ensures)
+pub returns-in_err-book : goal.returns-in_err-book
+returns-in_err-book c =
+    rw (handed_on _ c.from_residual.ensures.1) (contents_both _ _ _ _ (ask_refused _ _ c.in_err-book.ensures _))
 
 pub contents_in-requires : goal.contents_in-requires
 contents_in-requires c =
-    asked_few (passed_book c.in_ok-p.ensures) c.store_of.ensures
+    (held_layers (book_held c.in_ok-book.ensures)).1
 
 pub returns : goal.returns
 returns c =
-    contents_both _ _ _ _ (contents_said (passed_book c.in_ok-p.ensures) c.store_of.ensures _ _ c.contents_in.ensures)
+    contents_both _ _ _ _ (contents_said (book_held c.in_ok-book.ensures) _ _ c.contents_in.ensures)

@@ -2,9 +2,9 @@ use native.Mathlib.Omega.{arith}
 use Rattle.lookup.specs.Strings.{str_none, str_inside, str_there}
 use Rattle.lookup.proofs.str_in.Goals as goal
 
-pub returns-then-st-id : goal.returns-then-st-id
-returns-then-st-id c =
-    str_none _ _ _ _ c.if-st-id.true
+pub returns-then-not-has_string : goal.returns-then-not-has_string
+returns-then-not-has_string c =
+    str_none _ _ _ _ c.has_string.ensures c.if-not-has_string.true
 
 pub overflow_add-result : goal.overflow_add-result
 overflow_add-result c =
@@ -20,4 +20,4 @@ overflow_add-result-3 c =
 
 pub returns : goal.returns
 returns c =
-    str_there _ _ _ _ c.if-st-id.false c.start_from-start.ensures c.string_length-len.ensures
+    str_there _ _ _ _ c.has_string.ensures c.if-not-has_string.false c.start_from-start.ensures c.string_length-len.ensures

@@ -1,22 +1,21 @@
 use Rattle.std.proofs.Common.{sym, ap, refl, arith}
 use Rattle.places.specs.declared.Run.{Run}
-use Rattle.merged_lists.specs.Sizes.{totals_are}
-use Rattle.merged_lists.specs.Lists.{lists_room, kept_is, lists_runs, lists_wrote}
+use Rattle.merged_lists.specs.Lists.{lists_totals, lists_room, kept_is, lists_runs, lists_wrote}
 use Rattle.merged_lists.proofs.put_lists.Goals as goal
 
 pub overflow_add-pairs_to : goal.overflow_add-pairs_to
 overflow_add-pairs_to c =
-    let t = totals_are c.args.counts.now.kept c.args.counts.now.reading c.totals-all.ensures in
+    let t = lists_totals c.requires c.totals-all.ensures in
     let r = lists_room c.requires in omega (arith, r, c.well_formed, t.nodes)
 
 pub overflow_add-containers_to : goal.overflow_add-containers_to
 overflow_add-containers_to c =
-    let t = totals_are c.args.counts.now.kept c.args.counts.now.reading c.totals-all.ensures in
+    let t = lists_totals c.requires c.totals-all.ensures in
     let r = lists_room c.requires in omega (arith, r, c.well_formed, t.nodes, t.pairs)
 
 pub overflow_add-diagnostics_to : goal.overflow_add-diagnostics_to
 overflow_add-diagnostics_to c =
-    let t = totals_are c.args.counts.now.kept c.args.counts.now.reading c.totals-all.ensures in
+    let t = lists_totals c.requires c.totals-all.ensures in
     let r = lists_room c.requires in omega (arith, r, c.well_formed, t.nodes, t.pairs, t.containers)
 
 pub new-requires : goal.new-requires
@@ -53,7 +52,7 @@ put_nodes-requires c =
 
 pub put_list-requires : goal.put_list-requires
 put_list-requires c =
-    let t = totals_are c.args.counts.now.kept c.args.counts.now.reading c.totals-all.ensures in
+    let t = lists_totals c.requires c.totals-all.ensures in
     let r = lists_room c.requires in
     let i = kept_is c.requires in
     let before = rw (sym c.new-2.ensures.0, sym c.new-2.ensures.1) at i.pairs_before in
@@ -66,7 +65,7 @@ put_list-requires c =
 
 pub put_list-requires-2 : goal.put_list-requires-2
 put_list-requires-2 c =
-    let t = totals_are c.args.counts.now.kept c.args.counts.now.reading c.totals-all.ensures in
+    let t = lists_totals c.requires c.totals-all.ensures in
     let r = lists_room c.requires in
     let i = kept_is c.requires in
     let before = rw (sym c.new-4.ensures.0, sym c.new-4.ensures.1) at i.containers_before in
@@ -79,7 +78,7 @@ put_list-requires-2 c =
 
 pub put_diagnostics-requires : goal.put_diagnostics-requires
 put_diagnostics-requires c =
-    let t = totals_are c.args.counts.now.kept c.args.counts.now.reading c.totals-all.ensures in
+    let t = lists_totals c.requires c.totals-all.ensures in
     let r = lists_room c.requires in
     let i = kept_is c.requires in
     let before = rw (sym c.new-6.ensures.0, sym c.new-6.ensures.1) at i.diagnostics_before in
@@ -93,19 +92,19 @@ put_diagnostics-requires c =
 
 pub overflow_add-diagnostics_to-2 : goal.overflow_add-diagnostics_to-2
 overflow_add-diagnostics_to-2 c =
-    let t = totals_are c.args.counts.now.kept c.args.counts.now.reading c.totals-all.ensures in
+    let t = lists_totals c.requires c.totals-all.ensures in
     let r = lists_room c.requires in
     omega (arith, r, c.well_formed, t.nodes, t.pairs, t.containers, t.diagnostics, c.put_nodes.auto.out, c.put_list.auto.out, c.put_list-2.auto.out, c.put_diagnostics.auto.out)
 
 pub put_u8-requires : goal.put_u8-requires
 put_u8-requires c =
-    let t = totals_are c.args.counts.now.kept c.args.counts.now.reading c.totals-all.ensures in
+    let t = lists_totals c.requires c.totals-all.ensures in
     let r = lists_room c.requires in
     omega (arith, r, c.well_formed, t.nodes, t.pairs, t.containers, t.diagnostics, c.put_nodes.auto.out, c.put_list.auto.out, c.put_list-2.auto.out, c.put_diagnostics.auto.out)
 
 pub returns : goal.returns
 returns c =
-    let t = totals_are c.args.counts.now.kept c.args.counts.now.reading c.totals-all.ensures in
+    let t = lists_totals c.requires c.totals-all.ensures in
     let nodes = rw (c.new.ensures.0, c.new.ensures.1) at c.put_nodes.ensures in
     let pairs = rw (c.new-2.ensures.0, c.new-2.ensures.1, c.new-3.ensures.0, c.new-3.ensures.1) at c.put_list.ensures in
     let containers = rw (c.new-4.ensures.0, c.new-4.ensures.1, c.new-5.ensures.0, c.new-5.ensures.1) at c.put_list-2.ensures in

@@ -1,6 +1,6 @@
 use Rattle.model.specs.Tape.{node_codec, records_at}
+use Rattle.laws.specs.Records.{run_length}
 use Rattle.splice.specs.Window.{window_value}
-use Rattle.records.specs.Runs.{run_length}
 use Rattle.laws.specs.Parts.{nodes_six}
 use Rattle.merged_lists.specs.Lists.{nodes_wrote}
 use native.Mathlib.Omega.{arith}

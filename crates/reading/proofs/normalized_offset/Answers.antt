@@ -1,4 +1,5 @@
 use Rattle.reading.specs.Until.{summed_none, summed_image, summed_span, summed_more, summed_sums, summed_offset}
+use mathlib.Core.Path.{◌≡◌, refl}
 use native.Mathlib.Omega.{arith}
 use Rattle.reading.proofs.normalized_offset.Goals as goal
 
@@ -36,7 +37,12 @@ loop-i-preserved c =
 
 pub drifted-requires : goal.drifted-requires
 drifted-requires c =
-    let s = summed_sums c.loop-i.invariant (omega (arith, c.loop-i.invariant.within)) c.requires.in_order c.nodes_until-n.ensures in (omega (arith, s.0, c.nodes_until-n.ensures.within, c.requires.count_in_bounds), omega (arith, s.1))
+    let done : c.loop-i.i ≡ c.nodes_until-n.result = omega (arith, c.loop-i.invariant.within) in
+    let s = summed_sums c.loop-i.invariant done c.requires.in_order c.nodes_until-n.ensures in
+    record {
+      sums_bound = (omega (arith, s.0, c.nodes_until-n.ensures.within, c.requires.count_in_bounds), omega (arith, s.1));
+      fits = rw (summed_offset c.loop-i.invariant done c.nodes_until-n.ensures refl) c.requires.fits;
+    }
 
 pub returns : goal.returns
 returns c =

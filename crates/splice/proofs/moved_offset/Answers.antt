@@ -1,3 +1,5 @@
+use mir.Syntax.{w64}
+use mir.ValLaws.{to_z-of_z}
 use Rattle.std.proofs.Common.{◌≡◌, ℕ, ℤ, Option, Some, None, unwrap_or, ◌∙◌}
 use Rattle.model.specs.Offset.{shift_u32}
 use Rattle.model.specs.Merge.{moved_offset}
@@ -10,4 +12,4 @@ moved o by (Some n) e = moved_some o by n e
 moved o by None e = moved_none o by e
 
 pub returns : goal.returns
-returns c = c.unwrap_or.ensures ∙ moved _ _ _ c.shift_by.ensures
+returns c = c.unwrap_or.ensures ∙ rw (to_z-of_z w64 c.args.by c.ranges.by) at (moved c.args.o _ _ c.shift_u32.ensures)

@@ -5,4 +5,4 @@ use Rattle.splice_nodes.proofs.node_as_in.Goals as goal
 
 pub returns : goal.returns
 returns c =
-    rw (c.source_in.ensures, c.source_in-2.ensures, c.normalized_in.ensures) (node_as_in (window_value c.args.w) c.args.part (source_node_of c.args.n))
+    rw (c.span_in.ensures, c.normalized_in.ensures) (node_as_in (window_value c.args.w) c.args.part (source_node_of c.args.n))

@@ -8,7 +8,7 @@ slice_bounds-result-end c =
 
 pub returns-then-id-olds : goal.returns-then-id-olds
 returns-then-id-olds c =
-    cut_old c.args.old.now c.args.new.now c.args.olds c.args.id c.args.start c.args.len c.if-id-olds.true
+    cut_old c.args.old.now c.args.new.now c.args.olds c.args.id.0 c.args.start c.args.len c.if-id-olds.true
 
 pub overflow_sub-at : goal.overflow_sub-at
 overflow_sub-at c =
@@ -20,4 +20,4 @@ slice_bounds-result-end-2 c =
 
 pub returns : goal.returns
 returns c =
-    cut_new c.args.old.now c.args.new.now c.args.olds c.args.id c.args.start c.args.len c.if-id-olds.false _ refl
+    cut_new c.args.old.now c.args.new.now c.args.olds c.args.id.0 c.args.start c.args.len c.if-id-olds.false _ refl

@@ -9,7 +9,7 @@ nonzero_div-q c =
 
 pub returns-then-q-eq0 : goal.returns-then-q-eq0
 returns-then-q-eq0 c =
-    span_start (lengths_in c.args.tape.now) c.args.id c.start_from.ensures
+    span_start (lengths_in c.args.tape.now) c.args.id.0 c.start_from.ensures
 
 pub offset_bounds-words-q : goal.offset_bounds-words-q
 offset_bounds-words-q c =
@@ -21,7 +21,7 @@ bounds-words-q c =
 
 pub returns-then-start : goal.returns-then-start
 returns-then-start c =
-    span_start (lengths_in c.args.tape.now) c.args.id c.start_from-then-start.ensures
+    span_start (lengths_in c.args.tape.now) c.args.id.0 c.start_from-then-start.ensures
 
 pub overflow_mul-q : goal.overflow_mul-q
 overflow_mul-q c =
@@ -41,4 +41,4 @@ start_from-requires-2 c =
 
 pub returns : goal.returns
 returns c =
-    span_start (lengths_in c.args.tape.now) c.args.id c.start_from-2.ensures
+    span_start (lengths_in c.args.tape.now) c.args.id.0 c.start_from-2.ensures

@@ -7,11 +7,11 @@ use Rattle.table.proofs.string_at.Goals as goal
 
 pub wide_at-a-requires : goal.wide_at-a-requires
 wide_at-a-requires c =
-    omega (arith, wide_inside c.args.starts.now c.args.id (omega (arith, c.requires.id_in_bounds)))
+    omega (arith, wide_inside c.args.starts.now c.args.id.0 (omega (arith, c.requires.id_in_bounds)))
 
 pub wide_at-z-requires : goal.wide_at-z-requires
 wide_at-z-requires c =
-    omega (arith, wide_inside c.args.starts.now (c.args.id + 1) c.requires.id_in_bounds)
+    omega (arith, wide_inside c.args.starts.now (c.args.id.0 + 1) c.requires.id_in_bounds)
 
 pub slice_bounds-result-count : goal.slice_bounds-result-count
 slice_bounds-result-count c =

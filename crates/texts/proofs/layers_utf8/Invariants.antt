@@ -1,5 +1,5 @@
 use Rattle.texts.specs.Layers.{LayersLeft}
 use Rattle.texts.proofs.layers_utf8.Given as goal
 
-abbrev pub invariant-loop-layer : goal.invariant-loop-layer
-invariant-loop-layer l = LayersLeft l.tape l.bytes l.from l._layer l.at l.place
+abbrev pub invariant-loop-k : goal.invariant-loop-k
+invariant-loop-k l = LayersLeft l.layers.tape.now l.bytes l.from l.k l.at l.place

@@ -13,7 +13,7 @@ region_start-from-requires c =
 
 pub region_end-to-requires : goal.region_end-to-requires
 region_end-to-requires c =
-    let b = (search_bounds c.args.self.now.source.text.now c.args.self.now.start c.args.self.now.end c.args.self.now.replacement.now c.args.self.now.end_inside).1 in
+    let b = (search_bounds c.args.self.now.source.text.now c.args.self.now.start.0 c.args.self.now.end.0 c.args.self.now.replacement.now c.args.self.now.end_inside).1 in
     record {
       inside = omega (arith, b, c.search_from-behind.ensures);
       nodes_in = c.args.self.now.nodes_in;

@@ -1,22 +1,25 @@
-use Rattle.ids.specs.Whole.{walked_none, walked_inside, walked_fits, walked_failed, walked_more, walked_all}
+use Rattle.std.proofs.Common.{arith, refl}
+use Rattle.wire.specs.Loops.{passed_none}
+use Rattle.places.specs.Walked.{layer_more, layer_failed, layers_passed}
+use Rattle.store.specs.Stored.{stored_layers}
+use Rattle.store.specs.Standing.{in_tape, runs_there, runs_inside}
 use Rattle.ids.proofs.Pools.layers_ids_ok.Goals as goal
 
-pub loop-layer-init : goal.loop-layer-init
-loop-layer-init c = walked_none _ _
-
-pub next_layer-l-requires : goal.next_layer-l-requires
-next_layer-l-requires c = walked_inside c.loop-layer.invariant c.requires c.loop-layer-test.true
+pub loop-k-init : goal.loop-k-init
+loop-k-init c = passed_none _
 
 pub layer_ids_ok-requires : goal.layer_ids_ok-requires
-layer_ids_ok-requires c = let w = walked_fits c.loop-layer.invariant c.requires c.loop-layer-test.true c.next_layer-l.ensures in (w.0, w.1)
+layer_ids_ok-requires c = runs_inside c.args.self.now.of_tape c.loop-k-test.true c.layer_runs.ensures
 
 pub returns-then-not-layer_ids_ok : goal.returns-then-not-layer_ids_ok
 returns-then-not-layer_ids_ok c =
-    walked_failed c.loop-layer.invariant c.requires c.loop-layer-test.true c.next_layer-l.ensures c.layer_ids_ok.ensures c.if-not-layer_ids_ok.true
+    let tape = c.args.self.now.of_tape in
+    layer_failed _ _ _ (runs_there tape c.loop-k-test.true c.layer_runs.ensures) c.layer_ids_ok.ensures (in_tape tape c.loop-k-test.true) c.if-not-layer_ids_ok.true
 
-pub loop-layer-preserved : goal.loop-layer-preserved
-loop-layer-preserved c =
-    walked_more c.loop-layer.invariant c.requires c.loop-layer-test.true c.next_layer-l.ensures c.layer_ids_ok.ensures c.if-not-layer_ids_ok.false
+pub loop-k-preserved : goal.loop-k-preserved
+loop-k-preserved c =
+    layer_more _ _ _ (runs_there c.args.self.now.of_tape c.loop-k-test.true c.layer_runs.ensures) c.layer_ids_ok.ensures c.if-not-layer_ids_ok.false c.loop-k.invariant
 
 pub returns : goal.returns
-returns c = walked_all c.loop-layer.invariant c.requires c.loop-layer-test.false
+returns c =
+    let n = stored_layers _ c.args.self.now.of_tape.stored in layers_passed _ _ (omega (arith, n)) c.loop-k.invariant
