@@ -29,7 +29,8 @@ use span::{SourceOffset, Span};
 
 // The next offset to try for a cut that text and pairs allow: where a pair lies across, all up to its end are refused. It is o itself
 // where o is such a cut: from any other the search goes on. The words hold a window from one call to the next; why they are lent, and no part of a
-// struct, is said at `Source::reach_at`.
+// struct, is said at `Source::reach_at`. Inlined: a call at each offset makes a search over text without a blank line take twice as long.
+#[inline]
 fn next_try(source: &Source, o: SourceOffset, words: &mut [u32]) -> SourceOffset
     requires inside { o.0 ≤ length source.now.text.now }
     requires window { Window (pairs_in source.now) words.old }

@@ -68,6 +68,8 @@ pub fn containers_placed(tape: &[u8], containers: places::Run, normalized: Norma
     ))
 }
 
+// Not inlined, by speed: in `tape`'s walk through all tests its counter would stand on the stack, and a diagnostic take a third longer.
+#[inline(never)]
 pub fn diagnostics_placed(tape: &[u8], diagnostics: places::Run, text: SourceOffset) -> bool
     requires { diagnostics.at + 18 * diagnostics.count ≤ length tape.now }
     ensures { result ≡ all (diagnostic_ok text.0) (records_at diagnostic_codec tape.now diagnostics.at diagnostics.count) }

@@ -81,6 +81,8 @@ fn four(s: &[u8], at: usize) -> Option<usize>
 }
 
 // How many bytes the character at `at` has, if there is one.
+// Inlined by speed: behind a call `utf8::is_utf8` waits for each length before it reads on, and takes 1.3 to 1.4 times as long on characters of four bytes.
+#[inline]
 #[tactic(auto, using(crate::proofs::Lengths::one_byte, crate::proofs::Lengths::none_low, crate::proofs::Lengths::none_high))]
 pub fn char_len(s: &[u8], at: usize) -> Option<usize>
     requires { at < length s.now }

@@ -10,7 +10,6 @@ use estimate::Price;
 use refusal::Refusal;
 use span::SourceOffset;
 use std::io;
-use std::io::Read;
 
 // crate `vectors` parts a replacement likewise, but by a head of other words
 const HEAD: usize = 12;
@@ -25,10 +24,11 @@ fn put_price(rt: &impl Print, answer: Result<Price, Refusal>) -> io::Result<()> 
     }
 }
 
-fn show(rt: &(impl Alloc + Print), c: cases::Case) -> io::Result<()> {
+fn show(rt: &impl Print, c: cases::Case) -> io::Result<()> {
     let rest = c.replacement;
     let lent = wire::u32_or_zero(rest, 0).min(16384);
-    let mut work = vec![in rt.alloc(); 7u32; lent as usize]?;
+    let mut work = [7u32; 16384];
+    let work = &mut work[..lent as usize];
     let reading_tape = HEAD + wire::u32_or_zero(rest, 4) as usize;
     let reading_bytes = reading_tape + wire::u32_or_zero(rest, 8) as usize;
     let book = Stored::new(c.tape, c.bytes);
@@ -41,7 +41,7 @@ fn show(rt: &(impl Alloc + Print), c: cases::Case) -> io::Result<()> {
         wire::between(rest, reading_tape, reading_bytes),
         wire::between(rest, reading_bytes, rest.len()),
     );
-    let price = estimate::estimate(&book, &Correction { edit, reading }, &mut work);
+    let price = estimate::estimate(&book, &Correction { edit, reading }, work);
     rt.write_all(c.label)?;
     print!(rt; ": ")?;
     put_price(rt, price)?;
@@ -49,9 +49,9 @@ fn show(rt: &(impl Alloc + Print), c: cases::Case) -> io::Result<()> {
 }
 
 fn main(rt: HostRuntime) -> io::Result<()> {
-    let mut input = Vec::new(rt.alloc());
-    rt.stdin().read_to_end(&mut input)?;
-    for c in cases::Cases::new(&input) {
+    let mut input = [0u8; 262144];
+    let n = stream::read_full(&mut rt.stdin(), &mut input)?;
+    for c in cases::Cases::new(&input[..n]) {
         show(&rt, c)?;
     }
     Ok(())

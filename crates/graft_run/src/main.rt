@@ -9,7 +9,6 @@ ghost use Rattle.layer.specs.Layered.{TotalsFit};
 use layer::{Grafted, Place};
 use refusal::Refusal;
 use std::io;
-use std::io::Read;
 use store::Totals;
 use tape::Book;
 
@@ -85,7 +84,13 @@ fn totals_fit(o: Totals) -> bool
     o.strings <= MAX_POOL && o.contents <= MAX_POOL && o.segments <= MAX_POOL
 }
 
-fn show_graft(rt: &(impl Alloc + Print), c: cases::Case) -> io::Result<()> {
+// So many bytes as are lent of a buffer.
+fn first(buffer: &mut [u8], n: u32) -> &mut [u8] {
+    let n = buffer.len().min(n as usize);
+    &mut buffer[..n]
+}
+
+fn show_graft(rt: &impl Print, c: cases::Case) -> io::Result<()> {
     let source = match tape::open_book(c.tape, c.bytes) {
         Ok(book) => book,
         Err(refusal) => return put_refused(rt, refusal),
@@ -98,13 +103,14 @@ fn show_graft(rt: &(impl Alloc + Print), c: cases::Case) -> io::Result<()> {
     if !totals_fit(below) {
         return put_refused(rt, Refusal::NoRoom);
     }
-    let mut out = vec![in rt.alloc(); 7u8; c.start.min(65536) as usize]?;
-    let mut strs = vec![in rt.alloc(); 7u8; c.end.min(262144) as usize]?;
-    let mut work = vec![in rt.alloc(); 7u32; 16384]?;
-    graft(rt, &source, below, &mut out, &mut work, &mut strs)
+    let mut out = [7u8; 65536];
+    let mut strs = [7u8; 262144];
+    let mut work = [7u32; 16384];
+    let out = first(&mut out, c.start);
+    graft(rt, &source, below, out, &mut work, first(&mut strs, c.end))
 }
 
-fn show(rt: &(impl Alloc + Print), c: cases::Case) -> io::Result<()> {
+fn show(rt: &impl Print, c: cases::Case) -> io::Result<()> {
     rt.write_all(c.label)?;
     print!(rt; ": ")?;
     show_graft(rt, c)?;
@@ -112,9 +118,9 @@ fn show(rt: &(impl Alloc + Print), c: cases::Case) -> io::Result<()> {
 }
 
 fn main(rt: HostRuntime) -> io::Result<()> {
-    let mut input = Vec::new(rt.alloc());
-    rt.stdin().read_to_end(&mut input)?;
-    for c in cases::Cases::new(&input) {
+    let mut input = [0u8; 65536];
+    let n = stream::read_full(&mut rt.stdin(), &mut input)?;
+    for c in cases::Cases::new(&input[..n]) {
         show(&rt, c)?;
     }
     Ok(())

@@ -19,7 +19,7 @@ use listing::Listed;
 use refusal::Refusal;
 use span::{SourceOffset, Span};
 use std::io;
-use std::io::Write;
+use std::io::{Read, Write};
 
 const MAX_PART: u32 = 65536;
 
@@ -95,8 +95,7 @@ fn edit_in<'a>(input: &'a [u8], at: usize) -> Edit<'a>
 
 // ---- what is shown
 
-// Of a stream `s`, as many bytes are read as the buffer holds. That is enough (`asked_cut` in specs/Cut.antt), for a buffer of this size:
-// eight, two parts of 65536, twelve, a part of 65536, and one that shows a surplus.
+// What an input asks for, and any stream that begins with it, if it is as many bytes as the buffer below holds.
 fn read<'a>(input: &'a [u8], words: &mut [u32]) -> Result<Listed<'a>, Refusal>
     ensures { (s : List ℕ) → take 196629 s ≡ input.now → Read s result }
 {
@@ -115,6 +114,15 @@ fn read<'a>(input: &'a [u8], words: &mut [u32]) -> Result<Listed<'a>, Refusal>
         book,
         region: Some(region),
     })
+}
+
+// Of a stream `n` bytes stand in the buffer: all of them, or as many as it holds. That is enough (`asked_cut` in specs/Cut.antt), for a
+// buffer of this size: eight, two parts of 65536, twelve, a part of 65536, and one that shows a surplus.
+fn answer_read<'a>(input: &'a [u8], n: usize, words: &mut [u32]) -> Result<Listed<'a>, Refusal>
+    requires { (length input.now ≡ 196629) × (n ≤ length input.now) }
+    ensures { (s : List ℕ) → take (length input.now) s ≡ take n input.now → Read s result }
+{
+    read(&input[..n], words)
 }
 
 // ---- the output
@@ -155,15 +163,17 @@ fn print_lines<W: Write>(listed: &Listed, writer: &mut W, line: &mut Line<'_>) -
     Ok(())
 }
 
-fn run<W: Write>(
+fn run_read<W: Write>(
     writer: &mut W,
     input: &[u8],
+    n: usize,
     words: &mut [u32],
     line: &mut Line<'_>,
 ) -> io::Result<()>
-    requires { 3932866 ≤ room line.old }
+    requires input_len { (length input.now ≡ 196629) × (n ≤ length input.now) }
+    requires line_room { 3932866 ≤ room line.old }
 {
-    match read(input, words) {
+    match answer_read(input, n, words) {
         Err(refusal) => {
             line.put_refused(u32::from(refusal));
             print(writer, line)
@@ -178,11 +188,23 @@ fn run<W: Write>(
     }
 }
 
-fn main(rt: HostRuntime) -> io::Result<()> {
+// A stream, from a reader to a writer.
+fn show_stream<R: Read, W: Write>(
+    reader: &mut R,
+    writer: &mut W,
+    words: &mut [u32],
+    line: &mut Line<'_>,
+) -> io::Result<()>
+    requires { 3932866 ≤ room line.old }
+{
     let mut input = [0u8; 196629];
+    let n = stream::read_full(reader, &mut input)?;
+    run_read(writer, &input, n, words, line)
+}
+
+fn main(rt: HostRuntime) -> io::Result<()> {
     let mut words = [0u32; 8192];
     let mut out = vec![in rt.alloc(); 0u8; 3932866]?;
-    let n = stream::read_full(&mut rt.stdin(), &mut input)?;
     let mut line = Line::new(&mut out);
-    run(&mut rt.stdout(), &input[..n], &mut words, &mut line)
+    show_stream(&mut rt.stdin(), &mut rt.stdout(), &mut words, &mut line)
 }

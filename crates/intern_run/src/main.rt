@@ -56,7 +56,9 @@ fn call(st: &mut StrInterner, work: &mut [u32], strs: &mut [u8], s: &[u8]) -> Op
 }
 
 // The four digits of i, as bytes; `{i:04}` would be written to a stream, which may fail.
-fn digits(i: u32) -> [u8; 4] {
+fn digits(i: u32) -> [u8; 4]
+    ensures { result ≡ ((48 + i / 1000 % 10) ∷ (48 + i / 100 % 10) ∷ (48 + i / 10 % 10) ∷ (48 + i % 10) ∷ []) }
+{
     [
         (48 + i / 1000 % 10) as u8,
         (48 + i / 100 % 10) as u8,

@@ -80,7 +80,10 @@ fn run(
     requires { 160 ≤ room line.old }
     ensures { Put line.old line.new 160 (line_of (program input.now)) }
 {
-    runs::put_line(line, answer(input, out_tape, out_bytes, work));
+    match answer(input, out_tape, out_bytes, work) {
+        Ok(a) => runs::put_line(line, Ok(a)),
+        Err(refusal) => runs::put_line(line, Err(u32::from(refusal))),
+    }
 }
 
 // The line of a stream: `n` of its bytes stand in the buffer, all of them or as many as it holds. That is enough (`program_cut` in crate

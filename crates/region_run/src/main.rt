@@ -4,7 +4,6 @@
 
 use span::{SourceOffset, Span};
 use std::io;
-use std::io::Read;
 
 // A newline is shown as in a literal.
 fn put_text(rt: &impl Print, s: &[u8]) -> io::Result<()> {
@@ -38,9 +37,9 @@ fn show(rt: &impl Print, c: cases::Case) -> io::Result<()> {
 }
 
 fn main(rt: HostRuntime) -> io::Result<()> {
-    let mut input = Vec::new(rt.alloc());
-    rt.stdin().read_to_end(&mut input)?;
-    for c in cases::Cases::new(&input) {
+    let mut input = [0u8; 65536];
+    let n = stream::read_full(&mut rt.stdin(), &mut input)?;
+    for c in cases::Cases::new(&input[..n]) {
         show(&rt, c)?;
     }
     Ok(())

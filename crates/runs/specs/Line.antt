@@ -1,5 +1,5 @@
 -- The line that is printed.
-use Rattle.std.specs.Prelude.{◌≡◌, refl, ℕ}
+use Rattle.std.specs.Prelude.{◌≡◌, refl, ℕ, Result, Ok, Err}
 use Rattle.std.proofs.Common.{ap, ◌∙◌}
 use mathlib.Core.List.{List, [], ◌++◌, flatten, append_assoc, append-nil}
 use Rattle.model.specs.Lists.{ascii}
@@ -15,6 +15,11 @@ unfoldable pub accepted_line : Output → List ℕ
 accepted_line r =
     ((((((numbered (ascii "region ") r.start ++ numbered (ascii " ") r.end) ++ numbered (ascii " reused ") r.reused) ++ numbered (ascii " reread ") r.reread)
     ++ numbered (ascii " calls ") r.stats.calls) ++ numbered (ascii " probes ") r.stats.probe_steps) ++ ascii "\n")
+
+-- an answer, refused by whichever number
+abbrev pub told : Result Output ℕ → Checked Output
+told (Ok a) = accepted a
+told (Err n) = refused n
 
 -- the line of an answer
 unfoldable pub line_of : Checked Output → List ℕ

@@ -3,10 +3,10 @@
 
 ghost use Rattle.std.specs.Prelude.{◌≡◌, [], ◌∷◌, ◌+◌, ◌≤◌};
 ghost use Rattle.model.specs.Runs.{line};
-ghost use Rattle.refusal.specs.Refusal.{number_in, checked};
+ghost use Rattle.refusal.specs.Refusal.{number_in};
 ghost use Rattle.lines.specs.Put.{room, Put};
 ghost use Rattle.runs.specs.Input.{parts_fit, input_number};
-ghost use Rattle.runs.specs.Line.{accepted_line, line_of};
+ghost use Rattle.runs.specs.Line.{accepted_line, told, line_of};
 
 use lines::Line;
 use output::IncrementalOutput;
@@ -72,14 +72,14 @@ fn put_accepted(line: &mut Line<'_>, a: IncrementalOutput)
     line.put_text(b"\n");
 }
 
-// The line of an answer.
+// The line of an answer. A refusal by its number, as it was from the first: a `Refusal` would take fewer.
 #[tactic(auto, unfolding(crate::specs::Line::line_of))]
-pub fn put_line(line: &mut Line<'_>, a: Result<IncrementalOutput, Refusal>)
+pub fn put_line(line: &mut Line<'_>, a: Result<IncrementalOutput, u32>)
     requires { 160 ≤ room line.old }
-    ensures { Put line.old line.new 160 (line_of (checked a)) }
+    ensures { Put line.old line.new 160 (line_of (told a)) }
 {
     match a {
         Ok(a) => put_accepted(line, a),
-        Err(refusal) => line.put_refused(u32::from(refusal)),
+        Err(number) => line.put_refused(number),
     }
 }

@@ -1,12 +1,12 @@
 -- What is left of a room, where what is found in place is taken off it.
 use Rattle.std.specs.Prelude.{◌≡◌, refl, ℕ, zero, suc, ◌+◌, ◌-◌, ◌≤◌, ◌<◌, ◌^◌, Bool, true, false, cond, ◌&&◌, leb, Option, Some, None, IsSome}
 use Rattle.std.proofs.Math.Path.{sym, ap}
-use Rattle.std.proofs.Common.{ap₂, ◌∙◌, add-zero, arith}
+use Rattle.std.proofs.Common.{ap₂, ◌∙◌, add-zero, arith, true≢false}
 use Rattle.std.proofs.Math.Bool.{and-false}
 use borrow.Author.Tests.{le-leb, lt-leb, leb-true, leb-false}
 use Rattle.model.specs.Lists.{tabulate}
 use Rattle.facts.specs.Truth.{leb_left, both, by_bool}
-use Rattle.sizes.specs.Added.{Added, nothing, add, add_all, add_nothing}
+use Rattle.sizes.specs.Added.{Added, nothing, add, add_all, add_nothing, add_comm}
 use Rattle.sizes.specs.declared.Room.{Room}
 use Rattle.sizes.specs.declared.Left.{Left}
 use Rattle.sizes.specs.declared.Sizes.{Sizes}
@@ -51,6 +51,13 @@ fits_add m a b h =
     both_or (leb a.contents m.contents) (leb a.segments m.segments) h
     (leb (a.contents + b.contents) m.contents) (leb (a.segments + b.segments) m.segments)
     (less_leb a.contents m.contents b.contents) (less_leb a.segments m.segments b.segments)
+
+-- where there is room for a sum, there is room for its parts
+pub fits_left : (m : Room) (a b : Added) → fits m (add a b) ≡ true → fits m a ≡ true
+fits_left m a b h = by_bool (fits m a) (λ x. x) (λ x. absurd (true≢false (sym h ∙ fits_add m a b x)))
+
+pub fits_right : (m : Room) (a b : Added) → fits m (add a b) ≡ true → fits m b ≡ true
+fits_right m a b h = fits_left m b a (sym (ap (fits m) (add_comm a b)) ∙ h)
 
 -- what the answer says
 pub less_some : (t : Left) (a : Added) {u : Left} → Some u ≡ less t a → (fits (room_of t) a ≡ true) × (u ≡ remainder t a)

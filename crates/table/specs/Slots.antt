@@ -37,11 +37,11 @@ module _ (strings : List (List ℕ)) (s t : List ℕ) (n k at : ℕ) (more : k <
       let q : n - k ≡ suc (n - (k + 1)) = omega arith in
       rw (q, p, ne_eqb _ _ ne, holds_some strings (get_or t at 0) s ne ∙ e) refl
 
-pub turn_none : (strings : List (List ℕ)) (s t : List ℕ) (n k at : ℕ) → k ≡ n → probe (n - k) strings t s at k ≡ stopped at 0 n
+pub turn_none : (strings : List (List ℕ)) (s t : List ℕ) (n k at : ℕ) → n ≤ k → probe (n - k) strings t s at k ≡ stopped at 0 k
 unfolding probe
-turn_none strings s t n k at e =
-    let q : n - n ≡ 0 = omega arith in
-    rw (e, q) refl
+turn_none strings s t n k at h =
+    let q : n - k ≡ 0 = omega arith in
+    rw q refl
 
 pub turn_first : (strings : List (List ℕ)) (s t : List ℕ) (n at : ℕ) → probe (n - 0) strings t s at 0 ≡ probe n strings t s at 0
 turn_first strings s t n at =

@@ -6,7 +6,6 @@
 use refusal::Refusal;
 use span::{SourceOffset, StrId};
 use std::io;
-use std::io::Read;
 
 fn put_hex(rt: &impl Print, s: &[u8]) -> io::Result<()> {
     for b in s {
@@ -121,9 +120,9 @@ fn show(rt: &impl Print, c: cases::Case) -> io::Result<()> {
 }
 
 fn main(rt: HostRuntime) -> io::Result<()> {
-    let mut input = Vec::new(rt.alloc());
-    rt.stdin().read_to_end(&mut input)?;
-    for c in cases::Cases::new(&input) {
+    let mut input = [0u8; 65536];
+    let n = stream::read_full(&mut rt.stdin(), &mut input)?;
+    for c in cases::Cases::new(&input[..n]) {
         show(&rt, c)?;
     }
     Ok(())

@@ -1,13 +1,14 @@
--- Whole characters that are skipped together: runs of ASCII, and of three bytes E1-EC 80-BF 80-BF, which most of Japanese is.
-use Rattle.std.specs.Prelude.{Option, Some, MatchOption, ℕ, zero, suc, ◌+◌, ◌-◌, ◌≤◌, ◌<◌, ◌≡◌, refl, Bool, true, false, ◌&&◌, List, length, get_or, drop, ltb, leb}
+-- Whole characters that are skipped together: runs of ASCII, of three bytes that begin with E1-ED, which most of Japanese is, and of four.
+use Rattle.std.specs.Prelude.{Option, Some, MatchOption, ℕ, zero, suc, ◌+◌, ◌-◌, ◌≤◌, ◌<◌, ◌≡◌, refl, Bool, true, false, ◌&&◌, ◌||◌, ◌⊎◌, List, length, get_or, drop, ltb, leb, eqb}
 use Rattle.std.proofs.lemmas.Option.{MatchOption-at_some}
-use Rattle.std.proofs.Common.{sym, ap, ◌∙◌, arith, add-zero, ltb-true, leb-true}
+use Rattle.std.proofs.Common.{sym, ap, ◌∙◌, arith, inl, inr, add-zero, ltb-true, leb-true}
 use Rattle.std.proofs.Math.Bool.{and_assoc, and-true}
-use Rattle.model.specs.Utf8.{Utf8State, tail2, within, utf8_first, utf8_step, utf8}
-use Rattle.facts.specs.Truth.{both}
+use Rattle.model.specs.Utf8.{Utf8State, tail1, tail2, tail3, after_ed, after_f0, within, utf8_first, utf8_step, utf8}
+use borrow.Author.Tests.{eqb-true}
+use Rattle.facts.specs.Truth.{both, either}
 use Rattle.wire.specs.Loops.{all_up_to}
-use Rattle.chars.specs.Chars.{char_len, length_if, asks, len_1, three_whole, char_next, char_none, char_fits}
-use Rattle.chars.specs.Leads.{lead_1, lead_3}
+use Rattle.chars.specs.Chars.{char_len, length_if, asks, len_1, three_whole, four_whole, char_next, char_none, char_fits}
+use Rattle.chars.specs.Leads.{lead_1, lead_3, lead_4, lead_ed, lead_f0}
 
 -- between the places `at` and r there are whole characters, so that the rest is UTF-8 from either
 pub record Skipped (s : List ℕ) (at r : ℕ) : Type 0 where
@@ -85,22 +86,69 @@ all_add s at n (suc m) =
 pub twice_ascii : (s : List ℕ) (at n : ℕ) (p q : Bool) → p ≡ all_up_to n (ascii_at s at) → q ≡ all_up_to n (ascii_at s (at + n)) → (p && q) ≡ all_up_to (n + n) (ascii_at s at)
 twice_ascii s at n p q ep eq = rw (ep, eq, all_add s at n n) refl
 
--- ---- three bytes
+-- ---- three and four bytes
 
--- E1-EC 80-BF 80-BF
+-- E1-EC 80-BF 80-BF, and ED 80-9F 80-BF
 abbrev pub is_three : ℕ → ℕ → ℕ → Bool
-is_three a b d = within 0xe1 0xec a && within 0x80 0xbf b && within 0x80 0xbf d
+is_three a b d = ((within 0xe1 0xec a && within 0x80 0xbf b) || (eqb a 0xed && within 0x80 0x9f b)) && within 0x80 0xbf d
 
-pub skip_three : (s : List ℕ) (at : ℕ) → at + 3 ≤ length s → is_three (get_or s at 0) (get_or s (at + 1) 0) (get_or s (at + 2) 0) ≡ true → Skipped s at (at + 3)
-unfolding utf8_step
-skip_three s at h t =
-    let a = get_or s at 0 in
-    let x = both (within 0xe1 0xec a && within 0x80 0xbf (get_or s (at + 1) 0)) (within 0x80 0xbf (get_or s (at + 2) 0)) t in
-    let y = both (within 0xe1 0xec a) (within 0x80 0xbf (get_or s (at + 1) 0)) x.0 in
-    let z = both (leb 0xe1 a) (leb a 0xec) y.0 in
-    let l : 0xe1 ≤ a = leb-true 0xe1 a z.0 in
-    let u : a ≤ 0xec = leb-true a 0xec z.1 in
-    let e : utf8_first a ≡ tail2 = lead_3 a (omega arith) (omega arith) (λ k. omega arith) (λ k. omega arith) in
-    skip_char s at (omega arith) 3
-    (three_whole s at h (ap asks e) true (ap (λ (k : Utf8State). utf8_step k (get_or s (at + 1) 0)) e ∙ rw y.1 refl) refl x.1)
-    (λ k. omega arith)
+-- F1-F3 80-BF 80-BF 80-BF, and F0 90-BF 80-BF 80-BF
+abbrev pub is_four : ℕ → ℕ → ℕ → ℕ → Bool
+is_four a b d e = (((within 0xf1 0xf3 a && within 0x80 0xbf b) || (eqb a 0xf0 && within 0x90 0xbf b)) && within 0x80 0xbf d) && within 0x80 0xbf e
+
+within_bounds : (lo hi a : ℕ) → within lo hi a ≡ true → (lo ≤ a) × (a ≤ hi)
+within_bounds lo hi a t = let z = both (leb lo a) (leb a hi) t in (leb-true lo a z.0, leb-true a hi z.1)
+
+module _ (a b : ℕ) where
+  -- such two bytes begin a character of three
+  three_begun : (within 0xe1 0xec a && within 0x80 0xbf b) || (eqb a 0xed && within 0x80 0x9f b) ≡ true → (asks (utf8_first a) ≡ 2) × (utf8_step (utf8_first a) b ≡ tail1)
+  unfolding utf8_step
+  three_begun t = go (either (within 0xe1 0xec a && within 0x80 0xbf b) (eqb a 0xed && within 0x80 0x9f b) t)
+    where
+      begun : (k : Utf8State) → utf8_first a ≡ k → asks k ≡ 2 → utf8_step k b ≡ tail1 → (asks (utf8_first a) ≡ 2) × (utf8_step (utf8_first a) b ≡ tail1)
+      begun k e n q = (ap asks e ∙ n, ap (λ (j : Utf8State). utf8_step j b) e ∙ q)
+
+      go : (within 0xe1 0xec a && within 0x80 0xbf b ≡ true) ⊎ (eqb a 0xed && within 0x80 0x9f b ≡ true) → (asks (utf8_first a) ≡ 2) × (utf8_step (utf8_first a) b ≡ tail1)
+      go (inl l) =
+          let y = both (within 0xe1 0xec a) (within 0x80 0xbf b) l in
+          let z = within_bounds 0xe1 0xec a y.0 in
+          begun tail2 (lead_3 a (omega (arith, z.0)) (omega (arith, z.1)) (λ k. omega (arith, z.0)) (λ k. omega (arith, z.1))) refl (rw y.1 refl)
+      go (inr r) =
+          let y = both (eqb a 0xed) (within 0x80 0x9f b) r in
+          begun after_ed (lead_ed a (eqb-true a 0xed y.0)) refl (rw y.1 refl)
+
+  -- and such two one of four
+  four_begun : (within 0xf1 0xf3 a && within 0x80 0xbf b) || (eqb a 0xf0 && within 0x90 0xbf b) ≡ true → (asks (utf8_first a) ≡ 3) × (utf8_step (utf8_first a) b ≡ tail2)
+  unfolding utf8_step
+  four_begun t = go (either (within 0xf1 0xf3 a && within 0x80 0xbf b) (eqb a 0xf0 && within 0x90 0xbf b) t)
+    where
+      begun : (k : Utf8State) → utf8_first a ≡ k → asks k ≡ 3 → utf8_step k b ≡ tail2 → (asks (utf8_first a) ≡ 3) × (utf8_step (utf8_first a) b ≡ tail2)
+      begun k e n q = (ap asks e ∙ n, ap (λ (j : Utf8State). utf8_step j b) e ∙ q)
+
+      go : (within 0xf1 0xf3 a && within 0x80 0xbf b ≡ true) ⊎ (eqb a 0xf0 && within 0x90 0xbf b ≡ true) → (asks (utf8_first a) ≡ 3) × (utf8_step (utf8_first a) b ≡ tail2)
+      go (inl l) =
+          let y = both (within 0xf1 0xf3 a) (within 0x80 0xbf b) l in
+          let z = within_bounds 0xf1 0xf3 a y.0 in
+          begun tail3 (lead_4 a (omega (arith, z.0)) (omega (arith, z.1)) (λ k. omega (arith, z.0)) (λ k. omega (arith, z.1))) refl (rw y.1 refl)
+      go (inr r) =
+          let y = both (eqb a 0xf0) (within 0x90 0xbf b) r in
+          begun after_f0 (lead_f0 a (eqb-true a 0xf0 y.0)) refl (rw y.1 refl)
+
+module _ (s : List ℕ) (at : ℕ) where
+  pub skip_three : at + 3 ≤ length s → is_three (get_or s at 0) (get_or s (at + 1) 0) (get_or s (at + 2) 0) ≡ true → Skipped s at (at + 3)
+  skip_three h t =
+      let a = get_or s at 0 in
+      let b = get_or s (at + 1) 0 in
+      let x = both ((within 0xe1 0xec a && within 0x80 0xbf b) || (eqb a 0xed && within 0x80 0x9f b)) (within 0x80 0xbf (get_or s (at + 2) 0)) t in
+      let y = three_begun a b x.0 in
+      skip_char s at (omega arith) 3 (three_whole s at h y.0 true y.1 refl x.1) (λ k. omega arith)
+
+  pub skip_four : at + 4 ≤ length s → is_four (get_or s at 0) (get_or s (at + 1) 0) (get_or s (at + 2) 0) (get_or s (at + 3) 0) ≡ true → Skipped s at (at + 4)
+  skip_four h t =
+      let a = get_or s at 0 in
+      let b = get_or s (at + 1) 0 in
+      let p = ((within 0xf1 0xf3 a && within 0x80 0xbf b) || (eqb a 0xf0 && within 0x90 0xbf b)) in
+      let w = both (p && within 0x80 0xbf (get_or s (at + 2) 0)) (within 0x80 0xbf (get_or s (at + 3) 0)) t in
+      let x = both p (within 0x80 0xbf (get_or s (at + 2) 0)) w.0 in
+      let y = four_begun a b x.0 in
+      skip_char s at (omega arith) 4 (four_whole s at h y.0 true y.1 refl x.1 w.1) (λ k. omega arith)

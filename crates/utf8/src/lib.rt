@@ -1,5 +1,5 @@
 // UTF-8 by RFC 3629, for document 01's returned numbers 2 (a text is not UTF-8), 8 and 16 (a place inside a character): a walk by
-// characters. specs/Skips.antt: runs of ASCII, and of three bytes, are skipped together. specs/Blocks.antt: 64 bytes are
+// characters. specs/Skips.antt: runs of ASCII, of three bytes and of four, are skipped together. specs/Blocks.antt: 64 bytes are
 // judged together by their neighbours. The walks below end where they stop, and the next goes on from there, so they are `while` loops. Blocks
 // are judged by two bytes before them too, so the text goes whole, with a place in it, and not as the slice of what is left.
 #![tactic(auto)]
@@ -7,7 +7,7 @@
 ghost use Rattle.std.specs.Prelude.{◌≡◌, Some, ◌&&◌, ◌+◌, ◌≤◌, ◌<◌, length, get_or, ltb};
 ghost use Rattle.model.specs.Utf8.{utf8, is_char_boundary};
 ghost use Rattle.wire.specs.Loops.{all_up_to, any_up_to};
-ghost use Rattle.utf8.specs.Skips.{Skipped, Step, ascii_at, is_three};
+ghost use Rattle.utf8.specs.Skips.{Skipped, Step, ascii_at, is_three, is_four};
 ghost use Rattle.utf8.specs.Blocks.{is_odd, odd_at, len_of, Clear};
 
 // A single `&` and no branches, so that LLVM tests the bytes together. By halves, since eight are asked for by themselves too, and each clause
@@ -81,10 +81,12 @@ fn ascii_end(s: &[u8], at: usize) -> usize
 fn is_three(a: u8, b: u8, c: u8) -> bool
     ensures { result ≡ is_three a b c }
 {
-    chars::within(0xe1, 0xec, a) & chars::within(0x80, 0xbf, b) & chars::within(0x80, 0xbf, c)
+    ((chars::within(0xe1, 0xec, a) & chars::within(0x80, 0xbf, b))
+        | ((a == 0xed) & chars::within(0x80, 0x9f, b)))
+        & chars::within(0x80, 0xbf, c)
 }
 
-// Behind the characters E1-EC 80-BF 80-BF from `at` on.
+// Behind the characters E1-EC 80-BF 80-BF and ED 80-9F 80-BF from `at` on.
 fn three_end(s: &[u8], at: usize) -> usize
     requires { at ≤ length s.now }
     ensures { Skipped s.now at result }
@@ -95,6 +97,30 @@ fn three_end(s: &[u8], at: usize) -> usize
             return i;
         }
         i += 3;
+    }
+    i
+}
+
+fn is_four(a: u8, b: u8, c: u8, d: u8) -> bool
+    ensures { result ≡ is_four a b c d }
+{
+    ((chars::within(0xf1, 0xf3, a) & chars::within(0x80, 0xbf, b))
+        | ((a == 0xf0) & chars::within(0x90, 0xbf, b)))
+        & chars::within(0x80, 0xbf, c)
+        & chars::within(0x80, 0xbf, d)
+}
+
+// Behind the characters of four bytes from `at` on, but for those that begin with F4.
+fn four_end(s: &[u8], at: usize) -> usize
+    requires { at ≤ length s.now }
+    ensures { Skipped s.now at result }
+{
+    let mut i = at;
+    while 4 <= s.len() - i {
+        if !is_four(s[i], s[i + 1], s[i + 2], s[i + 3]) {
+            return i;
+        }
+        i += 4;
     }
     i
 }
@@ -111,11 +137,12 @@ fn ascii_len(s: &[u8], at: usize) -> usize
     1
 }
 
-fn three_len(s: &[u8], at: usize) -> Option<usize>
+// Runs of three and of four bytes have loops of their own: through `char_len` such a text takes up to twice as long, by where the code happens to lie.
+fn long_len(s: &[u8], at: usize) -> Option<usize>
     requires { at < length s.now }
     ensures { Step s.now at result }
 {
-    let end = three_end(s, at);
+    let end = four_end(s, three_end(s, at));
     if at < end {
         return Some(end - at);
     }
@@ -130,8 +157,8 @@ fn step_len(s: &[u8], at: usize) -> Option<usize>
     if s[at] < 0x80 {
         return Some(ascii_len(s, at));
     }
-    if chars::within(0xe1, 0xec, s[at]) {
-        return three_len(s, at);
+    if 0xe1 <= s[at] {
+        return long_len(s, at);
     }
     chars::char_len(s, at)
 }

@@ -58,14 +58,20 @@ fn put_rest(
     )
 }
 
-fn show(rt: &(impl Alloc + Print), c: cases::Case) -> io::Result<()> {
+// So much as is lent of a buffer.
+fn first<T>(buffer: &mut [T], n: u32) -> &mut [T] {
+    let n = buffer.len().min(n as usize);
+    &mut buffer[..n]
+}
+
+fn show(rt: &impl Print, c: cases::Case) -> io::Result<()> {
     let rest = c.replacement;
-    let tape = wire::u32_or_zero(rest, 0).min(65536);
-    let bytes = wire::u32_or_zero(rest, 4).min(65536);
-    let words = wire::u32_or_zero(rest, 8).min(16384);
-    let mut out = vec![in rt.alloc(); 7u8; tape as usize]?;
-    let mut strs = vec![in rt.alloc(); 7u8; bytes as usize]?;
-    let mut work = vec![in rt.alloc(); 7u32; words as usize]?;
+    let mut out = [7u8; 65536];
+    let mut strs = [7u8; 65536];
+    let mut work = [7u32; 16384];
+    let out = first(&mut out, wire::u32_or_zero(rest, 0));
+    let strs = first(&mut strs, wire::u32_or_zero(rest, 4));
+    let work = first(&mut work, wire::u32_or_zero(rest, 8));
     let reading_tape = HEAD + wire::u32_or_zero(rest, 12) as usize;
     let reading_bytes = reading_tape + wire::u32_or_zero(rest, 16) as usize;
     let book = Stored::new(c.tape, c.bytes);
@@ -78,25 +84,24 @@ fn show(rt: &(impl Alloc + Print), c: cases::Case) -> io::Result<()> {
         wire::between(rest, reading_tape, reading_bytes),
         wire::between(rest, reading_bytes, rest.len()),
     );
-    let r = incremental::merge(
-        &book,
-        &Correction { edit, reading },
-        &mut out,
-        &mut strs,
-        &mut work,
-    );
+    let r = incremental::merge(&book, &Correction { edit, reading }, out, strs, work);
     rt.write_all(c.label)?;
     print!(rt; ": ")?;
-    put_answer(rt, r, &out, &strs)?;
-    put_rest(rt, r, &out, &strs, &work)?;
+    put_answer(rt, r, out, strs)?;
+    put_rest(rt, r, out, strs, work)?;
     println!(rt)
 }
 
-fn main(rt: HostRuntime) -> io::Result<()> {
-    let mut input = Vec::new(rt.alloc());
-    rt.stdin().read_to_end(&mut input)?;
-    for c in cases::Cases::new(&input) {
-        show(&rt, c)?;
+// The cases of a stream, as much of it as the buffer holds.
+fn show_stream<R: Read>(rt: &impl Print, reader: &mut R, input: &mut [u8]) -> io::Result<()> {
+    let n = stream::read_full(reader, input)?;
+    for c in cases::Cases::new(&input[..n]) {
+        show(rt, c)?;
     }
     Ok(())
+}
+
+fn main(rt: HostRuntime) -> io::Result<()> {
+    let mut input = [0u8; 327680];
+    show_stream(&rt, &mut rt.stdin(), &mut input)
 }

@@ -66,11 +66,16 @@ pub fn put_u32(out: &mut [u8], at: usize, v: u32)
     out[at..at + 4].copy_from_slice(&v.to_le_bytes());
 }
 
+// Byte by byte: the library's `copy_from_slice` calls `memmove`, which whoever links the archive for C would have to bring.
 pub fn copy_at(out: &mut [u8], at: usize, s: &[u8])
     requires { at + length s.now ≤ length out.old }
     ensures { out.new ≡ overwrite out.old at s.now }
 {
-    out[at..at + s.len()].copy_from_slice(s);
+    let mut i = 0;
+    while i < s.len() {
+        out[at + i] = s[i];
+        i += 1;
+    }
 }
 
 // The library's `fill` for bytes and for words, told as `overwrite` from a place on, and as zeros alone.

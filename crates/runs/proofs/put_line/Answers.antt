@@ -9,4 +9,4 @@ returns-in-Ok c = rw c.in-Ok.is c.put_accepted.ensures
 
 pub returns-in-Err : goal.returns-in-Err
 unfolding line_of
-returns-in-Err c = rw c.in-Err.is (put_as c.put_refused.ensures (omega arith) (rw c.from.ensures refl))
+returns-in-Err c = rw c.in-Err.is (put_as c.put_refused.ensures (omega arith) refl)

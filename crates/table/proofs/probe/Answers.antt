@@ -1,7 +1,7 @@
 use Rattle.table.specs.Slots.{turn_first, turn_empty, turn_hit, turn_on, turn_none}
 use Rattle.table.specs.Layout.{wide_words, strings_of}
 use Rattle.model.specs.Lists.{same}
-use mathlib.Core.Path.{sym, ap, ◌∙◌}
+use mathlib.Core.Path.{◌≡◌, sym, ap, ◌∙◌}
 use mathlib.Core.List.{List}
 use Prim.Native.Nat.{ℕ}
 use native.Mathlib.Omega.{arith}
@@ -32,4 +32,6 @@ loop-k-preserved c =
 
 pub returns : goal.returns
 returns c =
-    sym (turn_none (strings_of (wide_words c.args.starts.now) c.args.strs.now) c.args.s.now c.args.table.now c.args.most c.loop-k.k _ (omega arith)) ∙ c.loop-k.invariant.1
+    let e : c.args.most ≡ c.loop-k.k = omega arith in
+    (λ i. record { at = c.loop-k.at; slot = 0; steps = e i })
+    ∙ sym (turn_none (strings_of (wide_words c.args.starts.now) c.args.strs.now) c.args.s.now c.args.table.now _ _ _ (omega (arith, e))) ∙ c.loop-k.invariant.1
