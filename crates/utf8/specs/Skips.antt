@@ -1,4 +1,4 @@
--- Whole characters that are skipped together: runs of ASCII, of three bytes that begin with E1-ED, which most of Japanese is, and of four.
+-- Whole characters that are skipped together: runs of ASCII, of three bytes that begin with E1-EC, which most of Japanese is, or with ED, and of four.
 use Rattle.std.specs.Prelude.{Option, Some, MatchOption, ℕ, zero, suc, ◌+◌, ◌-◌, ◌≤◌, ◌<◌, ◌≡◌, refl, Bool, true, false, ◌&&◌, ◌||◌, ◌⊎◌, List, length, get_or, drop, ltb, leb, eqb}
 use Rattle.std.proofs.lemmas.Option.{MatchOption-at_some}
 use Rattle.std.proofs.Common.{sym, ap, ◌∙◌, arith, inl, inr, add-zero, ltb-true, leb-true}
@@ -88,9 +88,13 @@ twice_ascii s at n p q ep eq = rw (ep, eq, all_add s at n n) refl
 
 -- ---- three and four bytes
 
--- E1-EC 80-BF 80-BF, and ED 80-9F 80-BF
+-- E1-EC 80-BF 80-BF
 abbrev pub is_three : ℕ → ℕ → ℕ → Bool
-is_three a b d = ((within 0xe1 0xec a && within 0x80 0xbf b) || (eqb a 0xed && within 0x80 0x9f b)) && within 0x80 0xbf d
+is_three a b d = within 0xe1 0xec a && within 0x80 0xbf b && within 0x80 0xbf d
+
+-- ED 80-9F 80-BF
+abbrev pub is_ed : ℕ → ℕ → ℕ → Bool
+is_ed a b d = eqb a 0xed && within 0x80 0x9f b && within 0x80 0xbf d
 
 -- F1-F3 80-BF 80-BF 80-BF, and F0 90-BF 80-BF 80-BF
 abbrev pub is_four : ℕ → ℕ → ℕ → ℕ → Bool
@@ -99,56 +103,59 @@ is_four a b d e = (((within 0xf1 0xf3 a && within 0x80 0xbf b) || (eqb a 0xf0 &&
 within_bounds : (lo hi a : ℕ) → within lo hi a ≡ true → (lo ≤ a) × (a ≤ hi)
 within_bounds lo hi a t = let z = both (leb lo a) (leb a hi) t in (leb-true lo a z.0, leb-true a hi z.1)
 
-module _ (a b : ℕ) where
-  -- such two bytes begin a character of three
-  three_begun : (within 0xe1 0xec a && within 0x80 0xbf b) || (eqb a 0xed && within 0x80 0x9f b) ≡ true → (asks (utf8_first a) ≡ 2) × (utf8_step (utf8_first a) b ≡ tail1)
-  unfolding utf8_step
-  three_begun t = go (either (within 0xe1 0xec a && within 0x80 0xbf b) (eqb a 0xed && within 0x80 0x9f b) t)
-    where
-      begun : (k : Utf8State) → utf8_first a ≡ k → asks k ≡ 2 → utf8_step k b ≡ tail1 → (asks (utf8_first a) ≡ 2) × (utf8_step (utf8_first a) b ≡ tail1)
-      begun k e n q = (ap asks e ∙ n, ap (λ (j : Utf8State). utf8_step j b) e ∙ q)
-
-      go : (within 0xe1 0xec a && within 0x80 0xbf b ≡ true) ⊎ (eqb a 0xed && within 0x80 0x9f b ≡ true) → (asks (utf8_first a) ≡ 2) × (utf8_step (utf8_first a) b ≡ tail1)
-      go (inl l) =
-          let y = both (within 0xe1 0xec a) (within 0x80 0xbf b) l in
-          let z = within_bounds 0xe1 0xec a y.0 in
-          begun tail2 (lead_3 a (omega (arith, z.0)) (omega (arith, z.1)) (λ k. omega (arith, z.0)) (λ k. omega (arith, z.1))) refl (rw y.1 refl)
-      go (inr r) =
-          let y = both (eqb a 0xed) (within 0x80 0x9f b) r in
-          begun after_ed (lead_ed a (eqb-true a 0xed y.0)) refl (rw y.1 refl)
-
-  -- and such two one of four
-  four_begun : (within 0xf1 0xf3 a && within 0x80 0xbf b) || (eqb a 0xf0 && within 0x90 0xbf b) ≡ true → (asks (utf8_first a) ≡ 3) × (utf8_step (utf8_first a) b ≡ tail2)
-  unfolding utf8_step
-  four_begun t = go (either (within 0xf1 0xf3 a && within 0x80 0xbf b) (eqb a 0xf0 && within 0x90 0xbf b) t)
-    where
-      begun : (k : Utf8State) → utf8_first a ≡ k → asks k ≡ 3 → utf8_step k b ≡ tail2 → (asks (utf8_first a) ≡ 3) × (utf8_step (utf8_first a) b ≡ tail2)
-      begun k e n q = (ap asks e ∙ n, ap (λ (j : Utf8State). utf8_step j b) e ∙ q)
-
-      go : (within 0xf1 0xf3 a && within 0x80 0xbf b ≡ true) ⊎ (eqb a 0xf0 && within 0x90 0xbf b ≡ true) → (asks (utf8_first a) ≡ 3) × (utf8_step (utf8_first a) b ≡ tail2)
-      go (inl l) =
-          let y = both (within 0xf1 0xf3 a) (within 0x80 0xbf b) l in
-          let z = within_bounds 0xf1 0xf3 a y.0 in
-          begun tail3 (lead_4 a (omega (arith, z.0)) (omega (arith, z.1)) (λ k. omega (arith, z.0)) (λ k. omega (arith, z.1))) refl (rw y.1 refl)
-      go (inr r) =
-          let y = both (eqb a 0xf0) (within 0x90 0xbf b) r in
-          begun after_f0 (lead_f0 a (eqb-true a 0xf0 y.0)) refl (rw y.1 refl)
-
 module _ (s : List ℕ) (at : ℕ) where
+  -- by the state k that the first byte leads to: what it asks for, and where the second leads from it
+  module _ (k : Utf8State) (e : utf8_first (get_or s at 0) ≡ k) where
+    second : {u : Utf8State} → utf8_step k (get_or s (at + 1) 0) ≡ u → utf8_step (utf8_first (get_or s at 0)) (get_or s (at + 1) 0) ≡ u
+    second q = ap (λ (j : Utf8State). utf8_step j (get_or s (at + 1) 0)) e ∙ q
+
+    three_by : at + 3 ≤ length s → asks k ≡ 2 → utf8_step k (get_or s (at + 1) 0) ≡ tail1 → within 0x80 0xbf (get_or s (at + 2) 0) ≡ true → Skipped s at (at + 3)
+    three_by h n q w = skip_char s at (omega arith) 3 (three_whole s at h (ap asks e ∙ n) true (second q) refl w) (λ z. omega arith)
+
+    four_by : at + 4 ≤ length s → asks k ≡ 3 → utf8_step k (get_or s (at + 1) 0) ≡ tail2 → within 0x80 0xbf (get_or s (at + 2) 0) ≡ true
+        → within 0x80 0xbf (get_or s (at + 3) 0) ≡ true → Skipped s at (at + 4)
+    four_by h n q w v = skip_char s at (omega arith) 4 (four_whole s at h (ap asks e ∙ n) true (second q) refl w v) (λ z. omega arith)
+
   pub skip_three : at + 3 ≤ length s → is_three (get_or s at 0) (get_or s (at + 1) 0) (get_or s (at + 2) 0) ≡ true → Skipped s at (at + 3)
+  unfolding utf8_step
   skip_three h t =
       let a = get_or s at 0 in
       let b = get_or s (at + 1) 0 in
-      let x = both ((within 0xe1 0xec a && within 0x80 0xbf b) || (eqb a 0xed && within 0x80 0x9f b)) (within 0x80 0xbf (get_or s (at + 2) 0)) t in
-      let y = three_begun a b x.0 in
-      skip_char s at (omega arith) 3 (three_whole s at h y.0 true y.1 refl x.1) (λ k. omega arith)
+      let x = both (within 0xe1 0xec a && within 0x80 0xbf b) (within 0x80 0xbf (get_or s (at + 2) 0)) t in
+      let y = both (within 0xe1 0xec a) (within 0x80 0xbf b) x.0 in
+      let z = within_bounds 0xe1 0xec a y.0 in
+      three_by tail2 (lead_3 a (omega (arith, z.0)) (omega (arith, z.1)) (λ k. omega (arith, z.0)) (λ k. omega (arith, z.1))) h refl (rw y.1 refl) x.1
 
-  pub skip_four : at + 4 ≤ length s → is_four (get_or s at 0) (get_or s (at + 1) 0) (get_or s (at + 2) 0) (get_or s (at + 3) 0) ≡ true → Skipped s at (at + 4)
-  skip_four h t =
+  pub skip_ed : at + 3 ≤ length s → is_ed (get_or s at 0) (get_or s (at + 1) 0) (get_or s (at + 2) 0) ≡ true → Skipped s at (at + 3)
+  unfolding utf8_step
+  skip_ed h t =
       let a = get_or s at 0 in
       let b = get_or s (at + 1) 0 in
-      let p = ((within 0xf1 0xf3 a && within 0x80 0xbf b) || (eqb a 0xf0 && within 0x90 0xbf b)) in
-      let w = both (p && within 0x80 0xbf (get_or s (at + 2) 0)) (within 0x80 0xbf (get_or s (at + 3) 0)) t in
-      let x = both p (within 0x80 0xbf (get_or s (at + 2) 0)) w.0 in
-      let y = four_begun a b x.0 in
-      skip_char s at (omega arith) 4 (four_whole s at h y.0 true y.1 refl x.1 w.1) (λ k. omega arith)
+      let x = both (eqb a 0xed && within 0x80 0x9f b) (within 0x80 0xbf (get_or s (at + 2) 0)) t in
+      let y = both (eqb a 0xed) (within 0x80 0x9f b) x.0 in
+      three_by after_ed (lead_ed a (eqb-true a 0xed y.0)) h refl (rw y.1 refl) x.1
+
+  pub skip_four : at + 4 ≤ length s → is_four (get_or s at 0) (get_or s (at + 1) 0) (get_or s (at + 2) 0) (get_or s (at + 3) 0) ≡ true → Skipped s at (at + 4)
+  unfolding utf8_step
+  skip_four h t =
+      let p = (within 0xf1 0xf3 a && within 0x80 0xbf b) in
+      let q = (eqb a 0xf0 && within 0x90 0xbf b) in
+      let w = both ((p || q) && within 0x80 0xbf (get_or s (at + 2) 0)) (within 0x80 0xbf (get_or s (at + 3) 0)) t in
+      let x = both (p || q) (within 0x80 0xbf (get_or s (at + 2) 0)) w.0 in
+      go x.1 w.1 (either p q x.0)
+    where
+      a : ℕ
+      a = get_or s at 0
+
+      b : ℕ
+      b = get_or s (at + 1) 0
+
+      go : within 0x80 0xbf (get_or s (at + 2) 0) ≡ true → within 0x80 0xbf (get_or s (at + 3) 0) ≡ true
+          → (within 0xf1 0xf3 a && within 0x80 0xbf b ≡ true) ⊎ (eqb a 0xf0 && within 0x90 0xbf b ≡ true) → Skipped s at (at + 4)
+      go w v (inl l) =
+          let y = both (within 0xf1 0xf3 a) (within 0x80 0xbf b) l in
+          let z = within_bounds 0xf1 0xf3 a y.0 in
+          four_by tail3 (lead_4 a (omega (arith, z.0)) (omega (arith, z.1)) (λ k. omega (arith, z.0)) (λ k. omega (arith, z.1))) h refl (rw y.1 refl) w v
+      go w v (inr r) =
+          let y = both (eqb a 0xf0) (within 0x90 0xbf b) r in
+          four_by after_f0 (lead_f0 a (eqb-true a 0xf0 y.0)) h refl (rw y.1 refl) w v

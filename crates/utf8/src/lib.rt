@@ -7,7 +7,7 @@
 ghost use Rattle.std.specs.Prelude.{◌≡◌, Some, ◌&&◌, ◌+◌, ◌≤◌, ◌<◌, length, get_or, ltb};
 ghost use Rattle.model.specs.Utf8.{utf8, is_char_boundary};
 ghost use Rattle.wire.specs.Loops.{all_up_to, any_up_to};
-ghost use Rattle.utf8.specs.Skips.{Skipped, Step, ascii_at, is_three, is_four};
+ghost use Rattle.utf8.specs.Skips.{Skipped, Step, ascii_at, is_three, is_ed, is_four};
 ghost use Rattle.utf8.specs.Blocks.{is_odd, odd_at, len_of, Clear};
 
 // A single `&` and no branches, so that LLVM tests the bytes together. By halves, since eight are asked for by themselves too, and each clause
@@ -81,12 +81,10 @@ fn ascii_end(s: &[u8], at: usize) -> usize
 fn is_three(a: u8, b: u8, c: u8) -> bool
     ensures { result ≡ is_three a b c }
 {
-    ((chars::within(0xe1, 0xec, a) & chars::within(0x80, 0xbf, b))
-        | ((a == 0xed) & chars::within(0x80, 0x9f, b)))
-        & chars::within(0x80, 0xbf, c)
+    chars::within(0xe1, 0xec, a) & chars::within(0x80, 0xbf, b) & chars::within(0x80, 0xbf, c)
 }
 
-// Behind the characters E1-EC 80-BF 80-BF and ED 80-9F 80-BF from `at` on.
+// Behind the characters E1-EC 80-BF 80-BF from `at` on.
 fn three_end(s: &[u8], at: usize) -> usize
     requires { at ≤ length s.now }
     ensures { Skipped s.now at result }
@@ -94,6 +92,27 @@ fn three_end(s: &[u8], at: usize) -> usize
     let mut i = at;
     while 3 <= s.len() - i {
         if !is_three(s[i], s[i + 1], s[i + 2]) {
+            return i;
+        }
+        i += 3;
+    }
+    i
+}
+
+fn is_ed(a: u8, b: u8, c: u8) -> bool
+    ensures { result ≡ is_ed a b c }
+{
+    (a == 0xed) & chars::within(0x80, 0x9f, b) & chars::within(0x80, 0xbf, c)
+}
+
+// Behind the characters ED 80-9F 80-BF from `at` on.
+fn ed_end(s: &[u8], at: usize) -> usize
+    requires { at ≤ length s.now }
+    ensures { Skipped s.now at result }
+{
+    let mut i = at;
+    while 3 <= s.len() - i {
+        if !is_ed(s[i], s[i + 1], s[i + 2]) {
             return i;
         }
         i += 3;
@@ -125,28 +144,32 @@ fn four_end(s: &[u8], at: usize) -> usize
     i
 }
 
-// How many bytes the ASCII at `at` has, one byte or many.
+// How many bytes the ASCII at `at` has, one byte or many. Eight are asked for first, since most runs between other characters are short.
 fn ascii_len(s: &[u8], at: usize) -> usize
     requires { (at < length s.now) × (get_or s.now at 0 < 0x80) }
     ensures { Step s.now at (Some result) }
 {
-    let end = ascii_end(s, ascii_blocks(s, at));
-    if at < end {
-        return end - at;
+    if s.len() - at < 8 {
+        return 1;
     }
-    1
+    if !eight_ascii(s, at) {
+        return 1;
+    }
+    ascii_end(s, ascii_blocks(s, at + 8)) - at
 }
 
-// Runs of three and of four bytes have loops of their own: through `char_len` such a text takes up to twice as long, by where the code happens to lie.
-fn long_len(s: &[u8], at: usize) -> Option<usize>
+// Behind the characters of one kind from `at` on. Through `char_len` a run takes up to twice as long, by where the code happens to lie. A loop for each
+// kind: one of two kinds asks for both at each character, and slows text of E1-EC by half.
+fn run_end(s: &[u8], at: usize) -> usize
     requires { at < length s.now }
-    ensures { Step s.now at result }
+    ensures { Skipped s.now at result }
 {
-    let end = four_end(s, three_end(s, at));
-    if at < end {
-        return Some(end - at);
+    match s[at] {
+        0xe1..=0xec => three_end(s, at),
+        0xed => ed_end(s, at),
+        0xf0..=0xf3 => four_end(s, at),
+        _ => at,
     }
-    chars::char_len(s, at)
 }
 
 // How many bytes the next characters have, one or many; None where there is none.
@@ -157,8 +180,9 @@ fn step_len(s: &[u8], at: usize) -> Option<usize>
     if s[at] < 0x80 {
         return Some(ascii_len(s, at));
     }
-    if 0xe1 <= s[at] {
-        return long_len(s, at);
+    let end = run_end(s, at);
+    if at < end {
+        return Some(end - at);
     }
     chars::char_len(s, at)
 }

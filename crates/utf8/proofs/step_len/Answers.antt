@@ -1,5 +1,9 @@
-use Rattle.utf8.specs.Skips.{step_char}
+use Rattle.utf8.specs.Skips.{step_skipped, step_char}
 use Rattle.utf8.proofs.step_len.Goals as goal
+
+pub returns-then-at-end : goal.returns-then-at-end
+returns-then-at-end c =
+    step_skipped c.run_end-end.ensures c.if-at-end.true
 
 pub returns : goal.returns
 returns c =
