@@ -85,6 +85,8 @@ fn is_three(a: u8, b: u8, c: u8) -> bool
 }
 
 // Behind the characters E1-EC 80-BF 80-BF from `at` on.
+// Not inlined, by speed: inside `is_utf8` its jumps are longer, and a run takes up to twice as long where they happen to lie across 32 bytes.
+#[inline(never)]
 fn three_end(s: &[u8], at: usize) -> usize
     requires { at ≤ length s.now }
     ensures { Skipped s.now at result }
