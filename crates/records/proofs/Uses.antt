@@ -95,6 +95,24 @@ unused_from k t i zero b e = ap (word_use k t) (let z : i + 0 ≡ i = omega arit
 unused_from k t i (suc d) b e =
     ap (word_use k t) (let z : i + suc d ≡ i + d + 1 = omega arith in z) ∙ unused_next k t (i + d) (omega arith) (unused_from k t i d (omega arith) e)
 
+module _ (used : Bool) (k t i w : ℕ) (h : i < 6) where
+  fits_same : use_fits used (use_among (uses_of k t) i) w ≡ word_fits (fields_for used k t) i w
+  unfolding use_fits word_fits fields_for word_use
+  fits_same = by_bool (eqb w 0) (λ e. rw (e, or-true) refl) (λ e. rw (e, or-false) (by_used used))
+    where
+      by_used : (x : Bool) → cond x (not (eqb (use_among (uses_of k t) i) 0)) false ≡ any (uses_word i) (cond x (get_or (field_table t) k []) [])
+      by_used true = rw (uses_right k t i h) (sym (uses_word_lem i (get_or (field_table t) k [])))
+      by_used false = refl
+
+-- the six words of a body, by the code's uses; whether it has words is asked at each
+pub words_fit_all : (used : Bool) (k t : ℕ) (ws : List ℕ) → length ws ≡ 6
+    → all_up_to 6 (λ (i : ℕ). use_fits used (use_among (uses_of k t) i) (get_or ws i 0)) ≡ unused_zero (fields_for used k t) 0 ws
+words_fit_all used k t ws six =
+    let fs = fields_for used k t in
+    all_up_to_same 6 (λ (i : ℕ). use_fits used (use_among (uses_of k t) i) (get_or ws i 0)) (λ (i : ℕ). word_fits fs i (get_or ws i 0)) (λ i h. fits_same used k t i (get_or ws i 0) h)
+    ∙ ap (λ (n : ℕ). all_up_to n (λ (i : ℕ). word_fits fs i (get_or ws i 0))) (sym six)
+    ∙ words_all fs ws
+
 -- the uses of a body of which it is told whether it has words
 unfoldable pub uses_for : Bool → ℕ → ℕ → List Use
 uses_for used k t = cond used (uses_of k t) (other_uses 16)
@@ -108,22 +126,24 @@ module _ (used : Bool) (k t : ℕ) (us : List Use) where
   unfolding uses_for
   uses_not_told e h = rw e h
 
-module _ (k t i w : ℕ) (h : i < 6) where
-  fits_same : (used : Bool) → use_fits true (use_among (uses_for used k t) i) w ≡ word_fits (fields_for used k t) i w
-  unfolding use_fits word_fits fields_for word_use uses_for
-  fits_same used = by_bool (eqb w 0) (λ e. rw (e, or-true) refl) (λ e. rw (e, or-false) (by_used used))
+module _ (used : Bool) (k t i w : ℕ) where
+  -- a body without words is tested as one whose six are unused
+  told_same : use_fits true (use_among (uses_for used k t) i) w ≡ use_fits used (use_among (uses_of k t) i) w
+  unfolding use_fits uses_for
+  told_same = by_told used
     where
-      by_used : (x : Bool) → not (eqb (use_among (cond x (uses_of k t) (other_uses 16)) i) 0) ≡ any (uses_word i) (cond x (get_or (field_table t) k []) [])
-      by_used true = rw (uses_right k t i h) (sym (uses_word_lem i (get_or (field_table t) k [])))
-      by_used false = rw (none_used i) refl
+      by_told : (x : Bool) → use_fits true (use_among (cond x (uses_of k t) (other_uses 16)) i) w ≡ use_fits x (use_among (uses_of k t) i) w
+      by_told true = refl
+      by_told false = rw (none_used i) refl
 
--- the six words of a body, by the code's uses
-pub words_fit_all : (used : Bool) (k t : ℕ) (ws : List ℕ) → length ws ≡ 6 → (us : List Use) → us ≡ uses_for used k t
+  fits_told : i < 6 → use_fits true (use_among (uses_for used k t) i) w ≡ word_fits (fields_for used k t) i w
+  fits_told h = told_same ∙ fits_same used k t i w h
+
+-- the same, asked once, before the six
+pub words_fit_for : (used : Bool) (k t : ℕ) (ws : List ℕ) → length ws ≡ 6 → (us : List Use) → us ≡ uses_for used k t
     → all_up_to 6 (λ (i : ℕ). use_fits true (use_among us i) (get_or ws i 0)) ≡ unused_zero (fields_for used k t) 0 ws
-words_fit_all used k t ws six us e =
-    let fs = fields_for used k t in
+words_fit_for used k t ws six us e =
     let fits = λ (l : List Use) (i : ℕ). use_fits true (use_among l i) (get_or ws i 0) in
     ap (λ (l : List Use). all_up_to 6 (fits l)) e
-    ∙ all_up_to_same 6 (fits (uses_for used k t)) (λ (i : ℕ). word_fits fs i (get_or ws i 0)) (λ i h. fits_same k t i (get_or ws i 0) h used)
-    ∙ ap (λ (n : ℕ). all_up_to n (λ (i : ℕ). word_fits fs i (get_or ws i 0))) (sym six)
-    ∙ words_all fs ws
+    ∙ all_up_to_same 6 (fits (uses_for used k t)) (λ (i : ℕ). use_fits used (use_among (uses_of k t) i) (get_or ws i 0)) (λ i h. told_same used k t i (get_or ws i 0))
+    ∙ words_fit_all used k t ws six

@@ -1,7 +1,7 @@
 use Rattle.std.proofs.Common.{ℕ, ◌≡◌, get_or, true, refl, ◌∙◌, rules}
 use Rattle.wire.proofs.Ranges.{range_all}
 use Rattle.records.specs.Uses.{use_fits, use_among, other_uses}
-use Rattle.records.proofs.Uses.{uses_for, uses_told, uses_not_told, words_fit_all}
+use Rattle.records.proofs.Uses.{uses_for, uses_told, uses_not_told, words_fit_for}
 use Rattle.records.proofs.words_fit.Goals as goal
 use Rattle.records.proofs.words_fit.Goals.{then-used, else-used}
 
@@ -15,4 +15,4 @@ returns c =
       | else-used w ↦ uses_not_told _ _ _ _ w.if-used.false w.uses-is
     ] in
     range_all _ _ _ _ (λ (i : ℕ). use_fits true (use_among c.if-used.uses i) (get_or a.words i 0)) refl (λ x b q k. search rules) _ c.all.ensures.ran
-    ∙ words_fit_all a.used a.kind a.tag a.words (search rules) _ same
+    ∙ words_fit_for a.used a.kind a.tag a.words (search rules) _ same
